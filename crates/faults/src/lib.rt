@@ -3,6 +3,7 @@ ghost use mathlib.Core.Path.{_≡_};
 ghost use Rattle.faults.specs.Told.{Told, kindWord, layerWord};
 
 pub mod error;
+pub mod refusal;
 
 use error::ErrorKind;
 use error::Layer;
