@@ -1,4 +1,5 @@
 pub mod Hex
 pub mod Words
+pub mod Shown
 pub mod Answers
 pub mod Normal

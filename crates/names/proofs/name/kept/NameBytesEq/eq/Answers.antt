@@ -1,0 +1,6 @@
+use borrow.Author.Needs.{needs}
+use Rattle.names.proofs.Good.{decides-of}
+use Rattle.names.proofs.name.kept.NameBytesEq.eq.Needs as need
+
+pub returns : need.returns
+returns c = search (needs, decides-of)

@@ -1,0 +1,18 @@
+-- The line that an answer is printed as. Assumes nothing.
+use mathlib.Core.Bool.{cond}
+use mathlib.Core.List.{List, _++_}
+use Prim.Native.Nat.{ℕ}
+use lib.Chars.{codes}
+use Rattle.faults.specs.Refusals.{toldBy, refusalText}
+use Rattle.transforms.specs.Printed.{printed}
+use Rattle.transforms.specs.Types.{typeText}
+use Rattle.script.specs.declared.answer.Answer.{Answer}
+use Rattle.script.specs.declared.answer.Answer.the-variants.{Done, Printed, ResultIs, Test, Refused, NotYet}
+
+abbrev pub answerText : Answer → List ℕ
+answerText Done = codes "ok"
+answerText (Printed t) = codes "ok " ++ printed t
+answerText (ResultIs t) = codes "ok " ++ typeText t
+answerText (Test b) = cond b (codes "yes") (codes "no")
+answerText (Refused r) = refusalText (toldBy r)
+answerText NotYet = codes "not-yet"
