@@ -3,7 +3,7 @@ use mathlib.Core.Path.{_≡_, refl}
 use Prim.Native.Nat.{ℕ, _<_}
 use Rattle.names.specs.Classes.{classOf}
 use Rattle.names.specs.Machine.{due, after}
-use Rattle.names.proofs.Table.{same-below}
+use Rattle.names.proofs.Table.{listed, same-below}
 use Rattle.names.specs.declared.utf8.classes.Class.{Class}
 use Rattle.names.specs.declared.utf8.classes.Class.the-variants.{Ascii, Tail8, Tail9, TailAB, Lead2, LeadE0, Lead3, LeadED, LeadF0, Lead4, LeadF4, Never}
 use Rattle.names.specs.declared.utf8.State.{State}
@@ -49,14 +49,17 @@ move AfterF0 k = third Fault Two Two k
 move AfterF4 k = third Two Fault Fault k
 move Fault k = Fault
 
--- each move is what the rows say: one test over the states and the bytes, which antt computes
+-- each move is what the rows say: for each state one test over the bytes, which antt computes
+tested : (st : State) → listed (λ b. due (move st (classOf b))) 0 256 ≡ listed (after (due st)) 0 256
+tested Start = refl
+tested One = refl
+tested Two = refl
+tested Three = refl
+tested AfterE0 = refl
+tested AfterED = refl
+tested AfterF0 = refl
+tested AfterF4 = refl
+tested Fault = refl
+
 pub moved : (st : State) (b : ℕ) → b < 256 → due (move st (classOf b)) ≡ after (due st) b
-moved Start = same-below (λ b. due (move Start (classOf b))) (after (due Start)) 256 refl
-moved One = same-below (λ b. due (move One (classOf b))) (after (due One)) 256 refl
-moved Two = same-below (λ b. due (move Two (classOf b))) (after (due Two)) 256 refl
-moved Three = same-below (λ b. due (move Three (classOf b))) (after (due Three)) 256 refl
-moved AfterE0 = same-below (λ b. due (move AfterE0 (classOf b))) (after (due AfterE0)) 256 refl
-moved AfterED = same-below (λ b. due (move AfterED (classOf b))) (after (due AfterED)) 256 refl
-moved AfterF0 = same-below (λ b. due (move AfterF0 (classOf b))) (after (due AfterF0)) 256 refl
-moved AfterF4 = same-below (λ b. due (move AfterF4 (classOf b))) (after (due AfterF4)) 256 refl
-moved Fault = same-below (λ b. due (move Fault (classOf b))) (after (due Fault)) 256 refl
+moved st = same-below (λ b. due (move st (classOf b))) (after (due st)) 256 (tested st)

@@ -1,14 +1,12 @@
 -- A rule of a table, proved at all of its entries by one test that antt computes. Assumes nothing.
 use mathlib.Core.Path.{_≡_, _∙_, subst, sym, refl}
-use mathlib.Core.Bool.{Bool, true, false}
 use mathlib.Core.List.{List, [], _∷_}
 use Prim.Native.Nat.{ℕ, zero, suc, _+_, _<_}
 use native.Mathlib.Nat.{add-zero, zero-add, add-suc, suc-add, le-of-suc-le-suc, not-suc-le-zero}
-use lib.Dec.{T}
-use lib.ListN.{length, getD}
+use lib.ListN.{getD}
 
 -- the n values of f from i on
-abbrev listed : {X : Type 0} → (ℕ → X) → ℕ → ℕ → List X
+abbrev pub listed : {X : Type 0} → (ℕ → X) → ℕ → ℕ → List X
 listed f i zero = []
 listed f i (suc n) = f i ∷ listed f (suc i) n
 

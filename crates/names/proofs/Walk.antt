@@ -1,10 +1,10 @@
 -- What a turn of `check_utf8` keeps, and what its ends say. Assumes nothing.
 use mathlib.Core.Path.{_≡_, refl, sym, ap, subst, _∙_}
-use mathlib.Core.Logic.{inl, inr, ⊎-elim}
-use mathlib.Core.List.{List, [], _∷_, _++_}
+use mathlib.Core.Logic.{⊎-elim}
+use mathlib.Core.List.{List, [], _∷_}
 use Prim.Native.Nat.{ℕ, _+_, _-_, _≤_, _<_}
 use native.Mathlib.Omega.{arith}
-use lib.ListN.{length, getD, take, drop, take-append-drop}
+use lib.ListN.{length, getD, take, drop}
 use lib.Seq.{take-add}
 use Rattle.std.proofs.shelf.Lists.{take-more, take-all}
 use Rattle.std.proofs.shelf.Tests.{cases-lt}
@@ -17,14 +17,12 @@ use Rattle.names.specs.declared.utf8.State.the-variants.{Start, One, Two, Thre
 use Rattle.names.proofs.Runs.{run, run-none, run-append, sound, complete}
 use Rattle.names.proofs.Chars.{from-utf8}
 
+-- after i bytes: what is due, and the longest front of them that ends no sequence short
 pub record Sofar (bs : List ℕ) (i : ℕ) (o : Due) (front : ℕ) : Type 0 where
   pub ran : o ≡ run (Some []) (take i bs)
   pub within : front ≤ i
   pub good : run (Some []) (take front bs) ≡ Some []
   pub last : (m : ℕ) → front < m → m ≤ i → run (Some []) (take m bs) ≡ Some [] → ⊥
-
-pub began : (bs : List ℕ) (o : Due) → o ≡ Some [] → Sofar bs 0 o 0
-began bs o e = record { ran = e; within = omega arith; good = refl; last = λ m a b. absurd (omega arith) }
 
 module _ (bs : List ℕ) (i : ℕ) (o p : Due) (front : ℕ) (b : ℕ) (s : Sofar bs i o front) (lt : i < length bs) (at : b ≡ getD bs i 0) (stepped : p ≡ after o b) where
   ran-more : p ≡ run (Some []) (take (i + 1) bs)
@@ -73,13 +71,17 @@ ended-short bs i o front s h n h′ =
 pub no-text : (bs : List ℕ) (n : ℕ) → Front bs n → Utf8 bs → ⊥
 no-text bs n f u = f .longest (length bs) (f .short) (omega arith) (subst WellFormed (sym (take-all (length bs) bs (omega arith))) (from-utf8 bs u))
 
+-- no sequence is begun only at the start
+begun-none : (st : State) → due st ≡ Some [] → st ≡ Start
+begun-none Start e = refl
+begun-none One e = cc
+begun-none Two e = cc
+begun-none Three e = cc
+begun-none AfterE0 e = cc
+begun-none AfterED e = cc
+begun-none AfterF0 e = cc
+begun-none AfterF4 e = cc
+begun-none Fault e = cc
+
 pub not-start : (st : State) → (st ≡ Start → ⊥) → due st ≡ Some [] → ⊥
-not-start Start n e = n refl
-not-start One n e = let z : _≡_ {A = ℕ} 0 1 = cc in omega arith
-not-start Two n e = let z : _≡_ {A = ℕ} 0 1 = cc in omega arith
-not-start Three n e = let z : _≡_ {A = ℕ} 0 1 = cc in omega arith
-not-start AfterE0 n e = let z : _≡_ {A = ℕ} 0 1 = cc in omega arith
-not-start AfterED n e = let z : _≡_ {A = ℕ} 0 1 = cc in omega arith
-not-start AfterF0 n e = let z : _≡_ {A = ℕ} 0 1 = cc in omega arith
-not-start AfterF4 n e = let z : _≡_ {A = ℕ} 0 1 = cc in omega arith
-not-start Fault n e = let z : _≡_ {A = ℕ} 0 1 = cc in omega arith
+not-start st n e = n (begun-none st e)

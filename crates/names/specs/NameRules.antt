@@ -7,10 +7,11 @@ use lib.ListN.{length}
 use Rattle.std.specs.Options.{Cases}
 use Rattle.std.specs.declared.option.Option.the-variants.{Some, None}
 use Rattle.faults.specs.Told.{Told}
-use Rattle.faults.specs.Rules.{Rule}
+use Rattle.faults.specs.Rules.{Rule, AllKept}
 use Rattle.faults.specs.declared.error.ErrorKind.the-variants.{DataInvalid}
 use Rattle.faults.specs.declared.error.Layer.the-variants.{Name}
 use Rattle.names.specs.WellFormed.{Front}
+use Rattle.names.specs.GoodName.{GoodName}
 use Rattle.names.specs.declared.name.NameFault.{NameFault}
 use Rattle.names.specs.declared.name.NameFault.the-variants.{Empty, Long, NotUtf8}
 
@@ -21,6 +22,9 @@ nameRules name =
     ∷ record { number = 2; Broken = λ value. Cases value (128 < length name) (λ _. ⊥) }
     ∷ record { number = 3; Broken = λ value. Cases value ⊥ (λ n. Front name n) }
     ∷ []
+
+abbrev pub Good-exactly-when-kept : Type 0
+Good-exactly-when-kept = (name : List ℕ) → (GoodName name → AllKept (nameRules name)) × (AllKept (nameRules name) → GoodName name)
 
 abbrev pub told : NameFault → Told
 told Empty = record { number = 1; kind = DataInvalid; layer = Name; reason = codes "name-empty"; value = None }

@@ -25,7 +25,7 @@ pub enum NameFault {
 // A good name, held in place: its bytes are the first `len`.
 #[derive(Clone, Copy)]
 pub struct Name {
-    bytes: [u8; 128],
+    bytes: [u8; MAX_LEN],
     len: u8,
     ghost short: { len ≤ 128 },
     ghost good: { ∥ GoodName (take len bytes) ∥₁ },

@@ -78,5 +78,9 @@ fn read_nested(word: &str) -> Option<Type> {
     if kind == "list" {
         return Some(Type::List(place));
     }
-    if kind == "map" { Some(Type::Map(place)) } else { None }
+    if kind == "map" {
+        Some(Type::Map(place))
+    } else {
+        None
+    }
 }

@@ -57,7 +57,10 @@ impl PrimitiveType {
     pub(crate) fn is_hashable(&self) -> bool
         ensures { λ r. ⌜ r ≡ not (among (now (self .entry)) unhashed) ⌝ }
     {
-        !matches!(*self, PrimitiveType::Boolean | PrimitiveType::Float | PrimitiveType::Double)
+        !matches!(
+            *self,
+            PrimitiveType::Boolean | PrimitiveType::Float | PrimitiveType::Double
+        )
     }
 
     pub(crate) fn is_truncatable(&self) -> bool

@@ -90,5 +90,9 @@ pub impl fmt::Display for Type as TypeDisplay {
 fn put_nested<W: fmt::Write>(kind: &str, at: u32, f: &mut fmt::Formatter<W>) -> fmt::Result
     ensures { λ r. ⌜ Prints (W·Write .took) (now (f .entry)) r (now (kind .entry) ++ place at) (now (f .exit)) ⌝ }
 {
-    if at == 0 { f.write_str(kind) } else { write!(f, "{kind}@{at}") }
+    if at == 0 {
+        f.write_str(kind)
+    } else {
+        write!(f, "{kind}@{at}")
+    }
 }

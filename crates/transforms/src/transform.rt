@@ -36,7 +36,9 @@ pub impl Fault for TypeFault as TypeFaultTells {
     ghost told = { told };
 
     fn number(&self) -> u8 {
-        8
+        match *self {
+            TypeFault::NoResult => 8,
+        }
     }
 
     fn kind(&self) -> ErrorKind {
@@ -48,7 +50,9 @@ pub impl Fault for TypeFault as TypeFaultTells {
     }
 
     fn reason(&self) -> &'static str {
-        "no-result"
+        match *self {
+            TypeFault::NoResult => "no-result",
+        }
     }
 
     fn value(&self) -> Option<usize> {
@@ -105,7 +109,10 @@ impl Transform {
     pub fn preserves_order(&self) -> bool
         ensures { λ r. ⌜ r ≡ preserves (now (self .entry)) ⌝ }
     {
-        !matches!(*self, Transform::Void | Transform::Bucket(_) | Transform::Unknown)
+        !matches!(
+            *self,
+            Transform::Void | Transform::Bucket(_) | Transform::Unknown
+        )
     }
 
     // Whether what is ordered by this transform is ordered by `other` too.

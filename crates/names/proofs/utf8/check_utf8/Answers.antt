@@ -1,5 +1,5 @@
-use mathlib.Core.Path.{refl, sym, ap, subst, _∙_}
-use native.Mathlib.Omega.{arith}
+-- Each turn keeps the longest front so far, and the ends read the answer off it.
+use mathlib.Core.Path.{refl, sym, ap, subst}
 use Rattle.names.specs.Machine.{due}
 use Rattle.names.proofs.Chars.{to-utf8, one-notion}
 use Rattle.names.proofs.Walk.{Sofar, at-start, at-other, at-fault, ended-good, ended-short, no-text, not-start}

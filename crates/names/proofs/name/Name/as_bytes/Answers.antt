@@ -1,3 +1,4 @@
+-- The part from the start is the name, and the name is good.
 use mathlib.Core.Path.{sym, ap, subst}
 use native.Mathlib.Nat.{sub-zero}
 use lib.ListN.{take}

@@ -1,3 +1,4 @@
+-- Each way of the match is the move of the state and the class, and a move is what the rows say.
 use mathlib.Core.Path.{_≡_, ap, _∙_}
 use native.Mathlib.Omega.{arith}
 use borrow.Author.Needs.{needs}

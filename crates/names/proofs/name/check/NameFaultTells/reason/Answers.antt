@@ -1,3 +1,4 @@
+-- The reason is the one told.
 use mathlib.Core.Path.{sym, ap}
 use Rattle.names.specs.NameRules.{told}
 use Rattle.names.proofs.name.check.NameFaultTells.reason.Needs as need

@@ -1,0 +1,6 @@
+pub mod Tells
+pub mod Width
+pub mod Words
+pub mod Reading
+pub mod Writing
+pub mod Promises
