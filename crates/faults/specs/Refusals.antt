@@ -9,13 +9,13 @@ use Rattle.faults.specs.Told.{Told, kindWord, layerWord}
 use Rattle.faults.specs.declared.refusal.Refusal.{Refusal}
 
 abbrev pub toldBy : Refusal → Told
-toldBy r = record { number = r .number; kind = r .kind; layer = r .layer; reason = r .reason .now; value = r .value }
+toldBy r = record { number = r .number; kind = r .kind; layer = r .layer; reason = r .reason .now; value = r .value; index = r .index }
 
--- a blank and the value, where there is one
-abbrev pub valueText : Option ℕ → List ℕ
-valueText None = []
-valueText (Some n) = codes " " ++ decimal n
+-- what is printed of a number that goes with the reason, after a mark
+abbrev pub after : List ℕ → Option ℕ → List ℕ
+after mark None = []
+after mark (Some n) = mark ++ decimal n
 
 abbrev pub refusalText : Told → List ℕ
 refusalText t =
-    codes "refused " ++ (decimal (t .number) ++ (codes " " ++ (kindWord (t .kind) ++ (codes " " ++ (layerWord (t .layer) ++ (codes " " ++ (t .reason ++ valueText (t .value))))))))
+    codes "refused " ++ (decimal (t .number) ++ (codes " " ++ (kindWord (t .kind) ++ (codes " " ++ (layerWord (t .layer) ++ (codes " " ++ (t .reason ++ (after (codes " ") (t .value) ++ after (codes " @") (t .index)))))))))

@@ -6,15 +6,17 @@ use Rattle.std.specs.declared.option.Option.{Option}
 use Rattle.faults.specs.declared.error.ErrorKind.{ErrorKind}
 use Rattle.faults.specs.declared.error.ErrorKind.the-variants.{PreconditionFailed, Unexpected, DataInvalid, NamespaceAlreadyExists, TableAlreadyExists, NamespaceNotFound, TableNotFound, FeatureUnsupported, CatalogCommitConflicts}
 use Rattle.faults.specs.declared.error.Layer.{Layer}
-use Rattle.faults.specs.declared.error.Layer.the-variants.{Name, Text, «Type»}
+use Rattle.faults.specs.declared.error.Layer.the-variants.{Name, Text, «Type», Draft, Batch, Record, Sort, Selection}
 
--- the value is the length or the index that goes with the number, where there is one
+-- the value is the length, or the index of an earlier field, that goes with the number, where there is one; the index
+-- says which field of a batch or entry of a record was refused
 pub record Told : Type 0 where
   pub number : ℕ
   pub kind : ErrorKind
   pub layer : Layer
   pub reason : List ℕ
   pub value : Option ℕ
+  pub index : Option ℕ
 
 abbrev pub kindWord : ErrorKind → List ℕ
 kindWord PreconditionFailed = codes "PreconditionFailed"
@@ -31,3 +33,8 @@ abbrev pub layerWord : Layer → List ℕ
 layerWord Name = codes "name"
 layerWord Text = codes "text"
 layerWord «Type» = codes "type"
+layerWord Draft = codes "draft"
+layerWord Batch = codes "batch"
+layerWord Record = codes "record"
+layerWord Sort = codes "sort"
+layerWord Selection = codes "selection"

@@ -19,4 +19,9 @@ pub enum Layer {
     Name,
     Text,
     Type,
+    Draft,
+    Batch,
+    Record,
+    Sort,
+    Selection,
 }

@@ -1,4 +1,4 @@
-// What every refusal tells: its number, its kind, its layer, its reason and a value.
+// What every refusal tells: its number, its kind, its layer, its reason, a value and an index.
 ghost use mathlib.Core.Path.{_≡_};
 ghost use Rattle.faults.specs.Told.{Told, kindWord, layerWord};
 
@@ -24,8 +24,13 @@ pub trait Fault {
     fn reason(&self) -> &'static str
         ensures { λ r. ⌜ now r ≡ told (now (self .entry)) .reason ⌝ };
 
+    // the length or the index of an earlier field that goes with the number
     fn value(&self) -> Option<usize>
         ensures { λ r. ⌜ r ≡ told (now (self .entry)) .value ⌝ };
+
+    // which field of a batch, or entry of a record, was refused
+    fn index(&self) -> Option<usize>
+        ensures { λ r. ⌜ r ≡ told (now (self .entry)) .index ⌝ };
 }
 
 impl ErrorKind {
@@ -55,6 +60,11 @@ impl Layer {
             Layer::Name => "name",
             Layer::Text => "text",
             Layer::Type => "type",
+            Layer::Draft => "draft",
+            Layer::Batch => "batch",
+            Layer::Record => "record",
+            Layer::Sort => "sort",
+            Layer::Selection => "selection",
         }
     }
 }

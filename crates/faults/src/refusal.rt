@@ -14,6 +14,7 @@ pub struct Refusal {
     pub layer: Layer,
     pub reason: &'static str,
     pub value: Option<usize>,
+    pub index: Option<usize>,
 }
 
 impl Refusal {
@@ -27,11 +28,12 @@ impl Refusal {
             layer: fault.layer(),
             reason: fault.reason(),
             value: fault.value(),
+            index: fault.index(),
         }
     }
 }
 
-// One line: the number, the kind, the layer, the reason, and the value where there is one.
+// One line: the number, the kind, the layer, the reason, and the value and the index where there are any.
 pub impl fmt::Display for Refusal as RefusalDisplay {
     ghost shown = { λ r. Some (refusalText (toldBy r)) };
 
@@ -40,9 +42,13 @@ pub impl fmt::Display for Refusal as RefusalDisplay {
         let kind = self.kind.into_static();
         let layer = self.layer.into_static();
         let reason = self.reason;
-        match self.value {
-            None => write!(f, "refused {number} {kind} {layer} {reason}"),
-            Some(value) => write!(f, "refused {number} {kind} {layer} {reason} {value}"),
+        match (self.value, self.index) {
+            (None, None) => write!(f, "refused {number} {kind} {layer} {reason}"),
+            (Some(value), None) => write!(f, "refused {number} {kind} {layer} {reason} {value}"),
+            (None, Some(index)) => write!(f, "refused {number} {kind} {layer} {reason} @{index}"),
+            (Some(value), Some(index)) => {
+                write!(f, "refused {number} {kind} {layer} {reason} {value} @{index}")
+            }
         }
     }
 }

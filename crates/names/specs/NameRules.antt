@@ -4,10 +4,9 @@ use mathlib.Core.List.{List, [], _∷_}
 use Prim.Native.Nat.{ℕ, _<_}
 use lib.Chars.{codes}
 use lib.ListN.{length}
-use Rattle.std.specs.Options.{Cases}
 use Rattle.std.specs.declared.option.Option.the-variants.{Some, None}
 use Rattle.faults.specs.Told.{Told}
-use Rattle.faults.specs.Rules.{Rule, AllKept}
+use Rattle.faults.specs.Rules.{Rule, rule, ruleAt, AllKept}
 use Rattle.faults.specs.declared.error.ErrorKind.the-variants.{DataInvalid}
 use Rattle.faults.specs.declared.error.Layer.the-variants.{Name}
 use Rattle.names.specs.WellFormed.{Front}
@@ -18,15 +17,17 @@ use Rattle.names.specs.declared.name.NameFault.the-variants.{Empty, Long, NotU
 -- the first two are broken at no value, and the third at the length of the longest well-formed front
 abbrev pub nameRules : List ℕ → List Rule
 nameRules name =
-    record { number = 1; Broken = λ value. Cases value (length name ≡ 0) (λ _. ⊥) }
-    ∷ record { number = 2; Broken = λ value. Cases value (128 < length name) (λ _. ⊥) }
-    ∷ record { number = 3; Broken = λ value. Cases value ⊥ (λ n. Front name n) }
+    rule 1 (length name ≡ 0)
+    ∷ rule 2 (128 < length name)
+    ∷ ruleAt 3 (λ n. Front name n)
     ∷ []
 
+-- a name is good exactly when it keeps every rule
 abbrev pub Good-exactly-when-kept : Type 0
 Good-exactly-when-kept = (name : List ℕ) → (GoodName name → AllKept (nameRules name)) × (AllKept (nameRules name) → GoodName name)
 
+-- number, kind, layer, reason and value of each refusal
 abbrev pub told : NameFault → Told
-told Empty = record { number = 1; kind = DataInvalid; layer = Name; reason = codes "name-empty"; value = None }
-told Long = record { number = 2; kind = DataInvalid; layer = Name; reason = codes "name-long"; value = None }
-told (NotUtf8 front) = record { number = 3; kind = DataInvalid; layer = Name; reason = codes "name-not-utf8"; value = Some front }
+told Empty = record { number = 1; kind = DataInvalid; layer = Name; reason = codes "name-empty"; value = None; index = None }
+told Long = record { number = 2; kind = DataInvalid; layer = Name; reason = codes "name-long"; value = None; index = None }
+told (NotUtf8 front) = record { number = 3; kind = DataInvalid; layer = Name; reason = codes "name-not-utf8"; value = Some front; index = None }

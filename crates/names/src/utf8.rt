@@ -24,6 +24,7 @@ enum State {
     Fault,
 }
 
+// Steps once a byte, and stays at its first fault.
 #[derive(Drop)]
 struct Machine {
     state: State,

@@ -24,10 +24,12 @@ pub enum Normal {
 pub fn normalise(text: &[u8]) -> Normal
     ensures { λ r. ⌜ Normalised (now (text .entry)) r ⌝ }
 {
-    match (loose(text), strict(text)) {
-        (Ok(transform), Ok(_)) => Normal::Same(transform),
-        (Ok(transform), Err(_)) => Normal::Other(transform),
-        (Err(fault), _) => Normal::Refused(Refusal::of(&fault)),
+    if let Ok(transform) = strict(text) {
+        return Normal::Same(transform);
+    }
+    match loose(text) {
+        Ok(transform) => Normal::Other(transform),
+        Err(fault) => Normal::Refused(Refusal::of(&fault)),
     }
 }
 

@@ -29,10 +29,13 @@ use Rattle.texts.specs.Promises.{Read-back, As-documented, Accepts-just-the-pr
 use Rattle.texts.proofs.Only.{loose-only}
 
 between : (ds : List ℕ) → 0 < length ds → ((i : ℕ) → i < length ds → In 48 57 (getD ds i 0)) → Between (91 ∷ (ds ++ 93 ∷ [])) ds
-between ds some digits =
-    (ds ++ 93 ∷ [],
-      (record { count = 1; whole = refl; none = λ e. omega (arith, getD-append-left ds (93 ∷ []) 0 0 some, digits 0 some .1) },
-        record { count = 1; whole = refl; none = λ e. let lt : length ds - 1 < length ds = omega arith in omega (arith, digits (length ds - 1) lt .1) }))
+between ds some digits = (
+  ds ++ 93 ∷ [],
+  (
+    record { count = 1; whole = refl; none = λ e. omega (arith, getD-append-left ds (93 ∷ []) 0 0 some, digits 0 some .1) },
+    record { count = 1; whole = refl; none = λ e. let lt : length ds - 1 < length ds = omega arith in omega (arith, digits (length ds - 1) lt .1) },
+  ),
+)
 
 -- a width in brackets after a word
 after : (word : List ℕ) (n : ℕ) → n < 2 ^ 32 → (bare : List ℕ) × (After word (word ++ (91 ∷ (decimal n ++ 93 ∷ []))) bare × SpellsWidth bare n)
@@ -40,9 +43,13 @@ after word n h =
     let num = decimal-reads n (omega arith) in
     let some = num .0 .0 in
     let at = λ (i : ℕ) (l : i < length (decimal n)). digit-at (decimal n) i (num .0 .1) l in
-    let plain = afterPlus-none (decimal n) (λ e. omega (arith, at 0 some .0)) in
-    (decimal n, ((91 ∷ (decimal n ++ 93 ∷ []), (refl, between (decimal n) some at)),
-      subst (λ ds. (0 < length ds) × Number ds n) (sym plain) (some, (num .0 .1, num .1, h))))
+    let plain = afterPlus-none (decimal n) (λ e. omega (arith, at 0 some .0)) in (
+      decimal n,
+      (
+        (91 ∷ (decimal n ++ 93 ∷ []), (refl, between (decimal n) some at)),
+        subst (λ ds. (0 < length ds) × Number ds n) (sym plain) (some, (num .0 .1, num .1, h)),
+      ),
+    )
 
 pub reads-so : (t : Transform) → Narrow t → Spells (printed t) t
 reads-so Identity h = refl
@@ -88,10 +95,11 @@ pub print-read : (text : List ℕ) (t : Transform) → Prints t text → LooseRe
 print-read text t p = subst (λ l. Spells l t) (sym (p .1)) (reads-so t (p .0))
 
 pub same-text : Same-text-just-when-same-transform
-same-text x y s t p q =
-    (λ e. let r : _≡_ {A = Result Transform TextFault} (Ok s) (Ok t) =
-                loose-only x (Ok t) (Ok s) (subst (λ l. LooseReading l (Ok t)) (sym e) (print-read y t q)) (print-read x s p) in cc,
-      λ e. p .1 ∙ ap printed e ∙ sym (q .1))
+same-text x y s t p q = (
+  λ e. let r : _≡_ {A = Result Transform TextFault} (Ok s) (Ok t) =
+      loose-only x (Ok t) (Ok s) (subst (λ l. LooseReading l (Ok t)) (sym e) (print-read y t q)) (print-read x s p) in cc,
+  λ e. p .1 ∙ ap printed e ∙ sym (q .1),
+)
 
 pub front-is : (n : ℕ) (text room now : List ℕ) → n ≡ length text → now ≡ text ++ drop n room → take (n - 0) now ≡ text
 front-is n text room now e w =

@@ -68,11 +68,11 @@ record Spelt (text : List ℕ) (t : Transform) : Type 0 where
 
 alone : {text : List ℕ} (t : Transform) (word : List ℕ) → text ≡ word → t ≡ byFirst (first word) 0 → (first word ≡ 98 → ⊥) → (first word ≡ 116 → ⊥) → (NoWord text → ⊥) → Spelt text t
 alone {text} t word e named b c known = record {
-    n = 0;
-    named = named ∙ ap (λ l. byFirst (first l) 0) (sym e);
-    known = known;
-    wide = inl (λ bare w. ⊎-elim (λ f. b (sym (ap first e) ∙ f)) (λ f. c (sym (ap first e) ∙ f)) (wide-first text bare w), refl)
-  }
+  n = 0;
+  named = named ∙ ap (λ l. byFirst (first l) 0) (sym e);
+  known = known;
+  wide = inl (λ bare w. ⊎-elim (λ f. b (sym (ap first e) ∙ f)) (λ f. c (sym (ap first e) ∙ f)) (wide-first text bare w), refl);
+}
 
 widened : {text : List ℕ} (t : Transform) (n : ℕ) (bare : List ℕ) → Wide text bare → SpellsWidth bare n → t ≡ byFirst (first text) n → Spelt text t
 widened {text} t n bare w s named = record { n = n; named = named; known = wide-known text bare w; wide = inr (bare, (w, s)) }
@@ -94,9 +94,9 @@ same-width {text} p q =
     ⊎-elim
     (λ a. ⊎-elim (λ b. a .1 ∙ sym (b .1)) (λ b. absurd (a .0 (b .0) (b .1 .0))) (q .wide))
     (λ a. ⊎-elim
-      (λ b. absurd (b .0 (a .0) (a .1 .0)))
-      (λ b. width-only (b .0) (p .n) (q .n) (subst (λ l. SpellsWidth l (p .n)) (wide-only text (a .0) (b .0) (a .1 .0) (b .1 .0)) (a .1 .1)) (b .1 .1))
-      (q .wide))
+    (λ b. absurd (b .0 (a .0) (a .1 .0)))
+    (λ b. width-only (b .0) (p .n) (q .n) (subst (λ l. SpellsWidth l (p .n)) (wide-only text (a .0) (b .0) (a .1 .0) (b .1 .0)) (a .1 .1)) (b .1 .1))
+    (q .wide))
     (p .wide)
 
 -- a text spells one transform only

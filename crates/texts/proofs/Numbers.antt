@@ -56,8 +56,8 @@ non-digit-or-overflow ds a b =
     ⊎-elim
     (λ e. a .1 .1 (subst (λ k. digitValue (getD ds k 0) < 10) (sym e) (b .1 .1)))
     (⊎-elim
-      (λ l. a .1 .1 (digit-in-front ds (b .0) (a .0) (b .1 .0 .1) l (a .1 .0 .0)))
-      (λ l. let m : b .0 + 1 ≤ a .0 = omega arith in omega (arith, front-le-front (b .0 + 1) (a .0) ds m, b .1 .2, a .1 .0 .2)))
+    (λ l. a .1 .1 (digit-in-front ds (b .0) (a .0) (b .1 .0 .1) l (a .1 .0 .0)))
+    (λ l. let m : b .0 + 1 ≤ a .0 = omega arith in omega (arith, front-le-front (b .0 + 1) (a .0) ds m, b .1 .2, a .1 .0 .2)))
     (cases-order (a .0) (b .0))
 
 -- a turn of the loop at the place k, before which the digits spell n

@@ -58,9 +58,13 @@ refused-width text bare w WidthMissing b = inr (λ v n. wide-known text bare w (
 refused-width text bare w WidthNonDigit b =
     inr (λ v n. wide-known text bare w (n .1), inr (kept 5 Missing text bare w (λ m. missing-or-strange bare m b), inl (refl, (refl, (bare, (w, b))))))
 refused-width text bare w WidthOverflow b =
-    inr (λ v n. wide-known text bare w (n .1),
-      inr (kept 5 Missing text bare w (λ m. missing-or-large bare m b),
-        inr (kept 6 Strange text bare w (λ s. strange-or-large bare s b), inl (refl, (refl, (bare, (w, b)))))))
+    inr (
+      λ v n. wide-known text bare w (n .1),
+      inr (
+        kept 5 Missing text bare w (λ m. missing-or-large bare m b),
+        inr (kept 6 Strange text bare w (λ s. strange-or-large bare s b), inl (refl, (refl, (bare, (w, b))))),
+      ),
+    )
 refused-width text bare w NotPrinted b = absurd b
 
 -- a word and a width after it
@@ -77,8 +81,13 @@ fixed-or-unknown text None f b c = inl (refl, (refl, record { fixed = f; bucket 
 
 -- a text that spells a transform breaks no rule
 pub spells-kept : (text : List ℕ) (t : Transform) → Spells text t → AllKept (textRules text)
-spells-kept text t s =
-    (λ v n. spells-known text t s (n .1),
-      (λ v b. let x = b .1 in let n = spells-wide text t s (x .0) (x .1 .0) in missing-or-spelt (x .0) (x .1 .1) (n .0) (n .1),
-        (λ v b. let x = b .1 in let n = spells-wide text t s (x .0) (x .1 .0) in strange-or-spelt (x .0) (x .1 .1) (n .0) (n .1),
-          (λ v b. let x = b .1 in let n = spells-wide text t s (x .0) (x .1 .0) in large-or-spelt (x .0) (x .1 .1) (n .0) (n .1), tt))))
+spells-kept text t s = (
+  λ v n. spells-known text t s (n .1),
+  (
+    λ v b. let x = b .1 in let n = spells-wide text t s (x .0) (x .1 .0) in missing-or-spelt (x .0) (x .1 .1) (n .0) (n .1),
+    (
+      λ v b. let x = b .1 in let n = spells-wide text t s (x .0) (x .1 .0) in strange-or-spelt (x .0) (x .1 .1) (n .0) (n .1),
+      (λ v b. let x = b .1 in let n = spells-wide text t s (x .0) (x .1 .0) in large-or-spelt (x .0) (x .1 .1) (n .0) (n .1), tt),
+    ),
+  ),
+)

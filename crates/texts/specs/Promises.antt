@@ -4,7 +4,7 @@ use mathlib.Core.Bool.{true}
 use mathlib.Core.List.{List}
 use Prim.Native.Nat.{ℕ}
 use Rattle.std.specs.Options.{Cases}
-use Rattle.std.specs.Results.{isOk}
+use Rattle.std.specs.Results.{isOk, Cases as ByOk}
 use Rattle.std.specs.Orderings.{Decides}
 use Rattle.std.specs.declared.result.Result.{Result}
 use Rattle.std.specs.declared.result.Result.the-variants.{Ok}
@@ -26,6 +26,10 @@ As-documented t = Cases (documentText t) (t ≡ Unknown) (λ text. text ≡ prin
 -- a text is accepted just when it is the print of a transform
 abbrev pub Accepts-just-the-printed : List ℕ → Result Transform TextFault → Type 0
 Accepts-just-the-printed text r = Decides (isOk r) ((t : Transform) × Prints t text)
+
+-- what strict reading accepts, loose reading reads alike
+abbrev pub Read-loosely-too : List ℕ → Result Transform TextFault → Type 0
+Read-loosely-too text r = ByOk r (λ t. LooseReading text (Ok t)) (λ _. Unit {0})
 
 -- two texts that strict reading accepts are equal just when their transforms are
 abbrev pub Same-text-just-when-same-transform : Type 0

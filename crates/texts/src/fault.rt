@@ -1,6 +1,5 @@
 // Why a text is refused.
 ghost use Rattle.texts.specs.Tells.{told};
-
 use faults::Fault;
 use faults::error::ErrorKind;
 use faults::error::Layer;
@@ -51,6 +50,10 @@ pub impl Fault for TextFault as TextFaultTells {
     }
 
     fn value(&self) -> Option<usize> {
+        None
+    }
+
+    fn index(&self) -> Option<usize> {
         None
     }
 }

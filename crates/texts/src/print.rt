@@ -8,7 +8,6 @@ ghost use Rattle.std.specs.Written.{decimal};
 ghost use Rattle.transforms.specs.Printed.{printed};
 ghost use Rattle.texts.specs.Writing.{Wrote};
 ghost use Rattle.texts.specs.Promises.{Read-back, As-documented};
-
 use transforms::transform::Transform;
 
 // The text is longer than the output.

@@ -6,8 +6,7 @@ ghost use Rattle.texts.specs.declared.fault.TextFault.{TextFault};
 ghost use Rattle.texts.specs.Width.{DigitsReading, OpenGone, CloseGone, WidthReading};
 ghost use Rattle.texts.specs.Words.{FixedReading};
 ghost use Rattle.texts.specs.Reading.{LooseReading, StrictReading};
-ghost use Rattle.texts.specs.Promises.{Accepts-just-the-printed, Same-text-just-when-same-transform};
-
+ghost use Rattle.texts.specs.Promises.{Accepts-just-the-printed, Read-loosely-too, Same-text-just-when-same-transform};
 use super::fault::TextFault;
 use super::print::OutputShort;
 use super::print::print;
@@ -31,6 +30,7 @@ pub fn loose(text: &[u8]) -> Result<Transform, TextFault>
 pub fn strict(text: &[u8]) -> Result<Transform, TextFault>
     ensures reading { λ r. ⌜ StrictReading (now (text .entry)) r ⌝ }
     ensures accepts { λ r. ⌜ Accepts-just-the-printed (now (text .entry)) r ⌝ }
+    ensures loosely { λ r. ⌜ Read-loosely-too (now (text .entry)) r ⌝ }
     ensures same { λ _. ⌜ Same-text-just-when-same-transform ⌝ }
 {
     let transform = match loose(text) {

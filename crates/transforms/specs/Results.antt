@@ -9,7 +9,7 @@ use Rattle.std.specs.declared.option.Option.{Option}
 use Rattle.std.specs.declared.option.Option.the-variants.{Some, None}
 use Rattle.std.specs.declared.result.Result.{Result}
 use Rattle.faults.specs.Told.{Told}
-use Rattle.faults.specs.Rules.{Rule, FirstBroken}
+use Rattle.faults.specs.Rules.{Rule, rule, FirstBroken}
 use Rattle.faults.specs.declared.error.ErrorKind.the-variants.{DataInvalid}
 use Rattle.faults.specs.declared.error.Layer.the-variants.{«Type» as TypeLayer}
 use Rattle.transforms.specs.declared.datatypes.PrimitiveType.{PrimitiveType}
@@ -69,10 +69,10 @@ resultOf t (Listed n) = nestedResult t (Listed n)
 resultOf t (Map n) = nestedResult t (Map n)
 
 abbrev pub told : TypeFault → Told
-told NoResult = record { number = 8; kind = DataInvalid; layer = TypeLayer; reason = codes "no-result"; value = None }
+told NoResult = record { number = 8; kind = DataInvalid; layer = TypeLayer; reason = codes "no-result"; value = None; index = None }
 
 abbrev pub typeRules : Transform → ColumnType → List Rule
-typeRules t s = record { number = 8; Broken = λ v. (v ≡ None) × (resultOf t s ≡ None) } ∷ []
+typeRules t s = rule 8 (resultOf t s ≡ None) ∷ []
 
 -- what the question for a result type answers
 abbrev pub ResultType : Transform → ColumnType → Result ColumnType TypeFault → Type 0

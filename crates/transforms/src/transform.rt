@@ -58,6 +58,10 @@ pub impl Fault for TypeFault as TypeFaultTells {
     fn value(&self) -> Option<usize> {
         None
     }
+
+    fn index(&self) -> Option<usize> {
+        None
+    }
 }
 
 impl Transform {

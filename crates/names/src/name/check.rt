@@ -59,4 +59,8 @@ pub impl Fault for NameFault as NameFaultTells {
             _ => None,
         }
     }
+
+    fn index(&self) -> Option<usize> {
+        None
+    }
 }

@@ -8,9 +8,13 @@ use Rattle.texts.proofs.print.decimal_of.Needs as need
 pub loop-left-again : need.loop-left-again
 loop-left-again c =
     let i = c .loop-left .inv in
-    let more = room (c .args .n) (c .loop-left .left) (c .loop-left .from) (c .loop-left .bytes) (i .0) (i .2) (i .1) (i .4) (omega arith) (c .loop-left-test .taken) (i .3) in
-    (one-digit (c .args .n) (c .loop-left .left) (c .loop-left .from) (c .loop-left .bytes) (i .0) (i .2) (i .1) (i .4) (c .loop-left-test .taken) (i .3),
-      omega arith, simp length-set (i .2), omega (arith, i .3), more)
+    let more = room (c .args .n) (c .loop-left .left) (c .loop-left .from) (c .loop-left .bytes) (i .0) (i .2) (i .1) (i .4) (omega arith) (c .loop-left-test .taken) (i .3) in (
+      one-digit (c .args .n) (c .loop-left .left) (c .loop-left .from) (c .loop-left .bytes) (i .0) (i .2) (i .1) (i .4) (c .loop-left-test .taken) (i .3),
+      omega arith,
+      simp length-set (i .2),
+      omega (arith, i .3),
+      more,
+    )
 
 pub returns : need.returns
 returns c =

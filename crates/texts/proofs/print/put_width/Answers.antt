@@ -15,9 +15,11 @@ returns-then-out-b c = let l = c .decimal-of-d .ensures .len in (simp length-app
 pub returns : need.returns
 returns c =
     let l = c .decimal-of-d .ensures .len in
-    let d = c .decimal-of-d .ensures .digits in
-    (simp length-append (omega arith), omega arith,
+    let d = c .decimal-of-d .ensures .digits in (
+      simp length-append (omega arith),
+      omega arith,
       three (c .args .out .now) (c .args .word .now) (decimal (c .args .n)) (c .copy-from-slice .last .self) (c .copy-from-slice-2 .last .self) (c .decimal-of-d .result .from)
-      (c .copy-from-slice .ensures .after)
-      (c .copy-from-slice-2 .ensures .after ∙ ap (take (10 - c .decimal-of-d .result .from)) d ∙ take-all (10 - c .decimal-of-d .result .from) (decimal (c .args .n)) (omega arith))
-      (omega arith) (c .if-out-b .left))
+          (c .copy-from-slice .ensures .after)
+          (c .copy-from-slice-2 .ensures .after ∙ ap (take (10 - c .decimal-of-d .result .from)) d ∙ take-all (10 - c .decimal-of-d .result .from) (decimal (c .args .n)) (omega arith))
+          (omega arith) (c .if-out-b .left),
+    )

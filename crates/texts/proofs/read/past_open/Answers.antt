@@ -9,9 +9,11 @@ use Rattle.texts.proofs.Dropped.{one-open}
 use Rattle.texts.proofs.read.past_open.Needs as need
 
 pub loop-rest-again : need.loop-rest-again
-loop-rest-again c =
-    (c .loop-rest .inv .0 + 1, one-open (c .args .text .now) (c .loop-rest .rest .now) (c .loop-rest .inv .0) (c .loop-rest .inv .1) (omega (arith, ltb-true, ltb-false)) (omega arith)
-      ∙ ap (λ l. replicate (c .loop-rest .inv .0 + 1) 91 ++ l) (sym (take-rest (c .loop-rest .rest .now) 1)))
+loop-rest-again c = (
+  c .loop-rest .inv .0 + 1,
+  one-open (c .args .text .now) (c .loop-rest .rest .now) (c .loop-rest .inv .0) (c .loop-rest .inv .1) (omega (arith, ltb-true, ltb-false)) (omega arith)
+      ∙ ap (λ l. replicate (c .loop-rest .inv .0 + 1) 91 ++ l) (sym (take-rest (c .loop-rest .rest .now) 1)),
+)
 
 pub returns : need.returns
 returns c = record { count = c .loop-rest .inv .0; whole = c .loop-rest .inv .1; none = λ e. omega (arith, getD-past (c .loop-rest .rest .now) 0 0 (omega (arith, ltb-true, ltb-false))) }

@@ -29,8 +29,8 @@ returns-in-rest-rest c =
     let bare = c .before-close-bare .result .now in
     width-so (c .digits .result) (c .past-open .ensures) (c .before-close-bare .ensures)
     (read-after-plus bare (drop 1 bare) (afterPlus-plus bare (omega arith))
-      (omega (arith, ltb-true, ltb-false, length-drop 1 bare, length-take (length bare - 1) (drop 1 bare)))
-      (c .digits .result) (subst (λ l. DigitsReading l (c .digits .result)) (take-rest bare 1) (c .digits .ensures)))
+    (omega (arith, ltb-true, ltb-false, length-drop 1 bare, length-take (length bare - 1) (drop 1 bare)))
+    (c .digits .result) (subst (λ l. DigitsReading l (c .digits .result)) (take-rest bare 1) (c .digits .ensures)))
 
 pub returns-in-rest : need.returns-in-rest
 returns-in-rest c =
