@@ -47,7 +47,10 @@ pub impl fmt::Display for Refusal as RefusalDisplay {
             (Some(value), None) => write!(f, "refused {number} {kind} {layer} {reason} {value}"),
             (None, Some(index)) => write!(f, "refused {number} {kind} {layer} {reason} @{index}"),
             (Some(value), Some(index)) => {
-                write!(f, "refused {number} {kind} {layer} {reason} {value} @{index}")
+                write!(
+                    f,
+                    "refused {number} {kind} {layer} {reason} {value} @{index}"
+                )
             }
         }
     }

@@ -8,10 +8,9 @@ use native.Mathlib.Omega.{arith}
 use lib.ListN.{length, take}
 use Rattle.std.proofs.shelf.Lists.{take-all}
 use Rattle.std.proofs.shelf.Tests.{cases-lt}
-use Rattle.std.specs.Options.{Cases}
-use Rattle.std.specs.declared.option.Option.{Option}
 use Rattle.std.specs.declared.option.Option.the-variants.{Some, None}
 use Rattle.faults.specs.Rules.{AllKept}
+use Rattle.faults.proofs.Firsts.{kept, kept-at}
 use Rattle.names.specs.WellFormed.{WellFormed, Front}
 use Rattle.names.specs.Machine.{Due}
 use Rattle.names.specs.GoodName.{GoodName}
@@ -59,17 +58,12 @@ no-front bs none =
     (λ n. absurd (let f = longest bs (length bs) (omega arith) (λ k l h w. let e : k ≡ length bs = omega arith in n (subst WellFormed (ap (λ i. take i bs) e ∙ all bs) w)) in none (f .0) (f .1)))
     (formed bs)
 
--- a rule is kept that is broken at no value
-kept : {P : Type 0} {Q : ℕ → Type 0} → (P → ⊥) → ((n : ℕ) → Q n → ⊥) → (value : Option ℕ) → Cases value P Q → ⊥
-kept p q None h = p h
-kept p q (Some n) h = q n h
-
 pub keeps : (name : List ℕ) → GoodName name → AllKept (nameRules name)
 keeps name g = (
-  kept (λ e. omega (arith, g .some)) (λ n h. h),
+  kept 1 (length name ≡ 0) (λ e. omega (arith, g .some)),
   (
-    kept (λ l. omega (arith, g .short)) (λ n h. h),
-    (kept (λ h. h) (λ n f. f .longest (length name) (f .short) (omega arith) (subst WellFormed (sym (all name)) (g .well-formed))), tt),
+    kept 2 (128 < length name) (λ l. omega (arith, g .short)),
+    (kept-at 3 (λ n. Front name n) (λ n f. f .longest (length name) (f .short) (omega arith) (subst WellFormed (sym (all name)) (g .well-formed))), tt),
   ),
 )
 

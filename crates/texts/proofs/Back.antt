@@ -108,7 +108,7 @@ front-is n text room now e w =
 
 -- a text that is no print is refused, and by nothing else
 pub not-printed : (text : List ℕ) → ((t : Transform) → Prints t text → ⊥) → StrictReading text (Err NotPrinted) × Accepts-just-the-printed text (Err NotPrinted)
-not-printed text none = (inl (refl, (refl, none)), (λ e. absurd (false≢true e), λ p. absurd (none (p .0) (p .1))))
+not-printed text none = (inl (refl, none), (λ e. absurd (false≢true e), λ p. absurd (none (p .0) (p .1))))
 
 -- strict reading after a loose one: the loose reading was this one only
 pub loose-refused : (text : List ℕ) (f : TextFault) → ((s : Result Transform TextFault) → LooseReading text s → s ≡ Err f) → (t : Transform) → Prints t text → ⊥

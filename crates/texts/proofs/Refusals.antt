@@ -10,29 +10,17 @@ use Rattle.std.specs.Options.{okOr}
 use Rattle.std.specs.declared.option.Option.{Option}
 use Rattle.std.specs.declared.option.Option.the-variants.{Some, None}
 use Rattle.std.specs.declared.result.Result.the-variants.{Ok, Err}
-use Rattle.faults.specs.Told.{Told}
-use Rattle.faults.specs.Rules.{Rule, FirstBroken, Kept, AllKept}
+use Rattle.faults.specs.Rules.{Rule, rule, FirstBroken, Kept, AllKept}
+use Rattle.faults.proofs.Firsts.{kept, first-number}
 use Rattle.transforms.specs.declared.transform.Transform.{Transform}
 use Rattle.texts.specs.declared.fault.TextFault.{TextFault}
 use Rattle.texts.specs.declared.fault.TextFault.the-variants.{WordUnknown, WidthMissing, WidthNonDigit, WidthOverflow, NotPrinted}
 use Rattle.texts.specs.Tells.{told}
 use Rattle.texts.specs.Width.{BareReading, WidthReading, SpellsWidth, Missing, Strange, TooLarge}
 use Rattle.texts.specs.Words.{After, Wide, Spells, NotBegun, NoWord, FixedReading}
-use Rattle.texts.specs.Reading.{rule, textRules, LooseReading}
+use Rattle.texts.specs.Reading.{textRules, LooseReading}
 use Rattle.texts.proofs.Heads.{wide-only, wide-known, spells-known, spells-wide}
 use Rattle.texts.proofs.Numbers.{missing-or-strange, missing-or-large, strange-or-large, missing-or-spelt, strange-or-spelt, large-or-spelt}
-
-first-number : (rules : List Rule) (a b : Told) → FirstBroken rules a → FirstBroken rules b → a .number ≡ b .number
-first-number [] a b p q = absurd p
-first-number (r ∷ rules) a b (inl p) (inl q) = p .0 ∙ sym (q .0)
-first-number (r ∷ rules) a b (inl p) (inr q) = absurd (q .0 (a .value) (p .1))
-first-number (r ∷ rules) a b (inr p) (inl q) = absurd (p .0 (b .value) (q .1))
-first-number (r ∷ rules) a b (inr p) (inr q) = first-number rules a b (p .1) (q .1)
-
-pub all-kept : (rules : List Rule) (a : Told) → AllKept rules → FirstBroken rules a → ⊥
-all-kept [] a k p = p
-all-kept (r ∷ rules) a k (inl p) = k .0 (a .value) (p .1)
-all-kept (r ∷ rules) a k (inr p) = all-kept rules a (k .1) (p .1)
 
 byNumber : ℕ → TextFault
 byNumber n = cond (eqb n 4) WordUnknown (cond (eqb n 5) WidthMissing (cond (eqb n 6) WidthNonDigit (cond (eqb n 7) WidthOverflow NotPrinted)))
@@ -49,20 +37,24 @@ pub fault-only : (rules : List Rule) (f g : TextFault) → FirstBroken rules (to
 fault-only rules f g p q = numbered f ∙ ap byNumber (first-number rules (told f) (told g) p q) ∙ sym (numbered g)
 
 -- a rule on what the brackets hold is kept where they hold something else
-kept : (n : ℕ) (P : List ℕ → Type 0) (text bare : List ℕ) → Wide text bare → (P bare → ⊥) → Kept (rule n ((b : List ℕ) × (Wide text b × P b)))
-kept n P text bare w unlike v broken = let b = broken .1 in unlike (subst P (wide-only text (b .0) bare (b .1 .0) w) (b .1 .1))
+kept-wide : (n : ℕ) (P : List ℕ → Type 0) (text bare : List ℕ) → Wide text bare → (P bare → ⊥) → Kept (rule n ((b : List ℕ) × (Wide text b × P b)))
+kept-wide n P text bare w unlike =
+    kept n ((b : List ℕ) × (Wide text b × P b)) (λ b. unlike (subst P (wide-only text (b .0) bare (b .1 .0) w) (b .1 .1)))
+
+known : (text bare : List ℕ) → Wide text bare → Kept (rule 4 (NoWord text))
+known text bare w = kept 4 (NoWord text) (wide-known text bare w)
 
 pub refused-width : (text bare : List ℕ) → Wide text bare → (f : TextFault) → BareReading bare (Err f) → FirstBroken (textRules text) (told f)
 refused-width text bare w WordUnknown b = absurd b
-refused-width text bare w WidthMissing b = inr (λ v n. wide-known text bare w (n .1), inl (refl, (refl, (bare, (w, b)))))
+refused-width text bare w WidthMissing b = inr (known text bare w, inl (refl, (bare, (w, b))))
 refused-width text bare w WidthNonDigit b =
-    inr (λ v n. wide-known text bare w (n .1), inr (kept 5 Missing text bare w (λ m. missing-or-strange bare m b), inl (refl, (refl, (bare, (w, b))))))
+    inr (known text bare w, inr (kept-wide 5 Missing text bare w (λ m. missing-or-strange bare m b), inl (refl, (bare, (w, b)))))
 refused-width text bare w WidthOverflow b =
     inr (
-      λ v n. wide-known text bare w (n .1),
+      known text bare w,
       inr (
-        kept 5 Missing text bare w (λ m. missing-or-large bare m b),
-        inr (kept 6 Strange text bare w (λ s. strange-or-large bare s b), inl (refl, (refl, (bare, (w, b))))),
+        kept-wide 5 Missing text bare w (λ m. missing-or-large bare m b),
+        inr (kept-wide 6 Strange text bare w (λ s. strange-or-large bare s b), inl (refl, (bare, (w, b)))),
       ),
     )
 refused-width text bare w NotPrinted b = absurd b
@@ -77,17 +69,20 @@ refused-after word text rest wide e f w = refused-width text (w .0) (wide (w .0)
 -- a fixed word, or no word
 pub fixed-or-unknown : (text : List ℕ) (o : Option Transform) → FixedReading text o → NotBegun (codes "bucket") text → NotBegun (codes "truncate") text → LooseReading text (okOr o WordUnknown)
 fixed-or-unknown text (Some t) f b c = f
-fixed-or-unknown text None f b c = inl (refl, (refl, record { fixed = f; bucket = b; truncate = c }))
+fixed-or-unknown text None f b c = inl (refl, record { fixed = f; bucket = b; truncate = c })
 
 -- a text that spells a transform breaks no rule
 pub spells-kept : (text : List ℕ) (t : Transform) → Spells text t → AllKept (textRules text)
-spells-kept text t s = (
-  λ v n. spells-known text t s (n .1),
-  (
-    λ v b. let x = b .1 in let n = spells-wide text t s (x .0) (x .1 .0) in missing-or-spelt (x .0) (x .1 .1) (n .0) (n .1),
-    (
-      λ v b. let x = b .1 in let n = spells-wide text t s (x .0) (x .1 .0) in strange-or-spelt (x .0) (x .1 .1) (n .0) (n .1),
-      (λ v b. let x = b .1 in let n = spells-wide text t s (x .0) (x .1 .0) in large-or-spelt (x .0) (x .1 .1) (n .0) (n .1), tt),
-    ),
-  ),
-)
+spells-kept text t s =
+    let wide : (n : ℕ) (P : List ℕ → Type 0) → ((bare : List ℕ) → Wide text bare → P bare → ⊥) → Kept (rule n ((b : List ℕ) × (Wide text b × P b)))
+    = λ n P none. kept n ((b : List ℕ) × (Wide text b × P b)) (λ b. none (b .0) (b .1 .0) (b .1 .1)) in
+    let at : (bare : List ℕ) (w : Wide text bare) → (n : ℕ) × SpellsWidth bare n = spells-wide text t s in (
+      kept 4 (NoWord text) (spells-known text t s),
+      (
+        wide 5 Missing (λ bare w m. let n = at bare w in missing-or-spelt bare m (n .0) (n .1)),
+        (
+          wide 6 Strange (λ bare w m. let n = at bare w in strange-or-spelt bare m (n .0) (n .1)),
+          (wide 7 TooLarge (λ bare w m. let n = at bare w in large-or-spelt bare m (n .0) (n .1)), tt),
+        ),
+      ),
+    )

@@ -2,20 +2,15 @@
 use mathlib.Core.Path.{_≡_}
 use mathlib.Core.List.{List, [], _∷_}
 use Prim.Native.Nat.{ℕ}
-use Rattle.std.specs.declared.option.Option.the-variants.{None}
 use Rattle.std.specs.declared.result.Result.{Result}
 use Rattle.std.specs.declared.result.Result.the-variants.{Ok, Err}
-use Rattle.faults.specs.Rules.{Rule, FirstBroken}
+use Rattle.faults.specs.Rules.{Rule, rule, FirstBroken}
 use Rattle.transforms.specs.declared.transform.Transform.{Transform}
 use Rattle.transforms.specs.Printed.{printed, Narrow}
 use Rattle.texts.specs.declared.fault.TextFault.{TextFault}
 use Rattle.texts.specs.Tells.{told}
 use Rattle.texts.specs.Width.{Missing, Strange, TooLarge}
 use Rattle.texts.specs.Words.{Wide, Spells, NoWord}
-
--- a rule that is broken at no length and no index
-abbrev pub rule : ℕ → Type 0 → Rule
-rule n P = record { number = n; Broken = λ v. (v ≡ None) × P }
 
 -- the rules of a text that is read loosely, in their order
 abbrev pub textRules : List ℕ → List Rule
