@@ -1,5 +1,4 @@
 // Plays a plan script: the file named, or standard input.
-use script::normal::Normal;
 use script::normal::NormalDisplay;
 use script::normal::normalise;
 use script::play::play;
@@ -7,12 +6,14 @@ use std::env;
 use std::error::AnyError;
 use std::fs::File;
 use std::io::BufWriter;
+use transforms::transform::TransformPartialEq;
 
 const HELP: &str = "planner: plays a plan script and prints one answer for each command
 
   planner                    the script on standard input
   planner FILE               the script in a file
-  planner normalise TEXT..   each transform text: its printed form and whether it was that, or its refusal
+  planner normalise TEXT..   each transform text: its printed form and whether it was that, or its refusal;
+                             of several texts, whether they are one transform
   planner --help             this text
 
 Commands of a script: name NAME, transform TEXT, strict TEXT, result TEXT TYPE, preserves TEXT,
@@ -55,7 +56,10 @@ fn play_file(rt: &LibcRuntime, path: &str) -> Result<(), AnyError> {
     let file = open(rt, path)?;
     let mut out = BufWriter::new(rt.stdout());
     let mut notes = rt.stderr();
-    play(rt.alloc(), file, &mut out, &mut notes)
+    match play(rt.alloc(), file, &mut out, &mut notes) {
+        Ok(()) => Ok(()),
+        Err(e) => Err(format!(rt.alloc(), "{e}: {path}")?.into()),
+    }
 }
 
 fn open(rt: &LibcRuntime, path: &str) -> Result<File, AnyError> {
@@ -65,10 +69,33 @@ fn open(rt: &LibcRuntime, path: &str) -> Result<File, AnyError> {
     }
 }
 
+// A line for each text, and of several whether they are one transform.
 fn show_normal(rt: &LibcRuntime, texts: &[&str]) -> Result<(), AnyError> {
     for text in texts {
         let normal = normalise(text.as_bytes());
         println!(rt, "{text}: {normal}")?;
     }
+    if texts.len() > 1 {
+        rt.println(if are_one(texts) {
+            "one transform"
+        } else {
+            "not one transform"
+        })?;
+    }
     Ok(())
+}
+
+fn are_one(texts: &[&str]) -> bool {
+    let Some(first) = texts.first() else {
+        return false;
+    };
+    let Some(meant) = normalise(first.as_bytes()).transform() else {
+        return false;
+    };
+    for text in texts {
+        if normalise(text.as_bytes()).transform() != Some(meant) {
+            return false;
+        }
+    }
+    true
 }

@@ -1,9 +1,9 @@
 // A plan script: one command to a line, one answer to a command.
-pub mod answer;
+mod answer;
 mod command;
-pub mod fault;
+mod fault;
 pub mod normal;
-pub mod plan;
+mod plan;
 pub mod play;
 mod types;
 mod verb;

@@ -1,7 +1,7 @@
 // A transform's text beside the printed one.
-ghost use Rattle.script.specs.Normal.{Normalised};
+ghost use mathlib.Core.Path.{_≡_};
 ghost use Rattle.std.specs.declared.option.Option.the-variants.{Some};
-ghost use Rattle.script.specs.Normal.{normalText};
+ghost use Rattle.script.specs.Normal.{Normalised, meant, normalText};
 use faults::refusal::Refusal;
 use faults::refusal::RefusalDisplay;
 use std::fmt;
@@ -30,6 +30,18 @@ pub fn normalise(text: &[u8]) -> Normal
     match loose(text) {
         Ok(transform) => Normal::Other(transform),
         Err(fault) => Normal::Refused(Refusal::of(&fault)),
+    }
+}
+
+impl Normal {
+    // The transform that the text means, if it means one.
+    pub fn transform(&self) -> Option<Transform>
+        ensures { λ r. ⌜ r ≡ meant (now (self .entry)) ⌝ }
+    {
+        match *self {
+            Normal::Same(transform) | Normal::Other(transform) => Some(transform),
+            Normal::Refused(_) => None,
+        }
     }
 }
 
