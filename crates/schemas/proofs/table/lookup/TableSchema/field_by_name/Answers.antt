@@ -1,0 +1,27 @@
+use mathlib.Core.Path.{refl}
+use mir.Val.{SFits}
+use mir.Syntax.{w32}
+use borrow.Author.Needs.{needs}
+use Rattle.std.specs.declared.option.Option.the-variants.{Some, None}
+use Rattle.std.proofs.shelf.Signed.{toZ-ofZ}
+use Rattle.schemas.specs.Rows.{shown}
+use Rattle.schemas.specs.Sound.{rowsSound}
+use Rattle.schemas.specs.TableRows.{tableRows}
+use Rattle.schemas.proofs.Lookups.{answered-by}
+use Rattle.schemas.proofs.table.lookup.TableSchema.field_by_name.Needs as need
+
+pub returns-in-Break-column : need.returns-in-Break-column
+returns-in-Break-column c =
+    let rows = tableRows (c .args .self .now) in
+    let id = c .in-Continue-id .id in
+    let fits : SFits w32 id = search needs in
+    answered-by (shown rows) (rowsSound rows) (c .args .name .now) id _ None _ (c .in-Continue-id .ensures tt) (toZ-ofZ w32 id fits) (c .in-Break-column .ensures tt)
+    (c .from-residual-in-Break-column .ensures)
+
+pub returns : need.returns
+returns c =
+    let rows = tableRows (c .args .self .now) in
+    let id = c .in-Continue-id .id in
+    let fits : SFits w32 id = search needs in
+    answered-by (shown rows) (rowsSound rows) (c .args .name .now) id _ (Some (c .in-Continue-column .column)) _ (c .in-Continue-id .ensures tt) (toZ-ofZ w32 id fits)
+    (c .in-Continue-column .ensures tt) refl

@@ -1,0 +1,10 @@
+pub mod Ids
+pub mod Columns
+pub mod Laws
+pub mod Rows
+pub mod TableRows
+pub mod Regular
+pub mod RowLaws
+pub mod Selected
+pub mod Sound
+pub mod SelectRules
