@@ -2,12 +2,11 @@
 use mathlib.Core.Path.{_≡_, refl, sym, ap, subst, _∙_}
 use mathlib.Core.Logic.{inl}
 use mathlib.Core.List.{List, [], _∷_, _++_}
-use Prim.Native.Nat.{ℕ, _+_, _-_, _^_, _≤_, _<_}
+use Prim.Native.Nat.{ℕ, _-_, _^_, _≤_, _<_}
 use native.Mathlib.Omega.{arith}
 use lib.Chars.{codes}
 use lib.ListN.{length, getD, take, drop, length-append}
 use Rattle.std.specs.Text.{In}
-use Rattle.std.specs.Reads.{afterPlus}
 use Rattle.std.specs.Written.{decimal}
 use Rattle.std.proofs.shelf.Decimals.{decimal-reads, length-decimal-le}
 use Rattle.std.proofs.shelf.Lists.{take-at, getD-append-left}
@@ -25,7 +24,7 @@ use Rattle.texts.specs.Writing.{Wrote}
 use Rattle.texts.specs.Width.{Between, Number, SpellsWidth}
 use Rattle.texts.specs.Words.{After, Spells}
 use Rattle.texts.specs.Reading.{LooseReading, StrictReading, Prints}
-use Rattle.texts.specs.Promises.{Read-back, As-documented, Accepts-just-the-printed, Same-text-just-when-same-transform}
+use Rattle.texts.specs.Promises.{Read-back, As-documented, Accepts-exactly-the-printed, Same-text-exactly-when-same-transform}
 use Rattle.texts.proofs.Only.{loose-only}
 
 between : (ds : List ℕ) → 0 < length ds → ((i : ℕ) → i < length ds → In 48 57 (getD ds i 0)) → Between (91 ∷ (ds ++ 93 ∷ [])) ds
@@ -94,7 +93,7 @@ documented Unknown = refl
 pub print-read : (text : List ℕ) (t : Transform) → Prints t text → LooseReading text (Ok t)
 print-read text t p = subst (λ l. Spells l t) (sym (p .1)) (reads-so t (p .0))
 
-pub same-text : Same-text-just-when-same-transform
+pub same-text : Same-text-exactly-when-same-transform
 same-text x y s t p q = (
   λ e. let r : _≡_ {A = Result Transform TextFault} (Ok s) (Ok t) =
       loose-only x (Ok t) (Ok s) (subst (λ l. LooseReading l (Ok t)) (sym e) (print-read y t q)) (print-read x s p) in cc,
@@ -107,7 +106,7 @@ front-is n text room now e w =
     ap (λ k. take k now) z ∙ ap (take (length text)) w ∙ take-at text (drop n room) (length text) refl
 
 -- a text that is no print is refused, and by nothing else
-pub not-printed : (text : List ℕ) → ((t : Transform) → Prints t text → ⊥) → StrictReading text (Err NotPrinted) × Accepts-just-the-printed text (Err NotPrinted)
+pub not-printed : (text : List ℕ) → ((t : Transform) → Prints t text → ⊥) → StrictReading text (Err NotPrinted) × Accepts-exactly-the-printed text (Err NotPrinted)
 not-printed text none = (inl (refl, none), (λ e. absurd (false≢true e), λ p. absurd (none (p .0) (p .1))))
 
 -- strict reading after a loose one: the loose reading was this one only

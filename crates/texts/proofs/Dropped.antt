@@ -1,12 +1,12 @@
 -- Dropped dropped: what a turn of each loop keeps, and that what is left is one thing only. Assumes nothing.
-use mathlib.Core.Path.{_≡_, refl, sym, ap, _∙_}
+use mathlib.Core.Path.{_≡_, sym, ap, _∙_}
 use mathlib.Core.List.{List, [], _∷_, _++_, append-assoc, append-nil}
-use Prim.Native.Nat.{ℕ, zero, suc, _+_, _-_, _≤_, _<_}
+use Prim.Native.Nat.{ℕ, zero, suc, _+_, _-_, _<_}
 use native.Mathlib.Omega.{arith}
 use native.Mathlib.Numerals.{add-one}
 use lib.ListN.{length, getD, take, drop, replicate}
 use Rattle.std.proofs.shelf.Lists.{take-all, take-more, replicate-more, same-from-push, getD-push, length-push}
-use Rattle.texts.specs.Width.{OpenGone, CloseGone, Between}
+use Rattle.texts.specs.Width.{Between}
 
 pub one-open : (text rest : List ℕ) (k : ℕ) → text ≡ replicate k 91 ++ rest → 0 < length rest → getD rest 0 0 ≡ 91 → text ≡ replicate (k + 1) 91 ++ drop 1 rest
 one-open text [] k e h g = absurd (omega arith)

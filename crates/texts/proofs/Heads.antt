@@ -66,28 +66,34 @@ record Spelt (text : List ℕ) (t : Transform) : Type 0 where
   known : NoWord text → ⊥
   wide : (((bare : List ℕ) → Wide text bare → ⊥) × (n ≡ 0)) ⊎ ((bare : List ℕ) × (Wide text bare × SpellsWidth bare n))
 
-alone : {text : List ℕ} (t : Transform) (word : List ℕ) → text ≡ word → t ≡ byFirst (first word) 0 → (first word ≡ 98 → ⊥) → (first word ≡ 116 → ⊥) → (NoWord text → ⊥) → Spelt text t
-alone {text} t word e named b c known = record {
-  n = 0;
-  named = named ∙ ap (λ l. byFirst (first l) 0) (sym e);
-  known = known;
-  wide = inl (λ bare w. ⊎-elim (λ f. b (sym (ap first e) ∙ f)) (λ f. c (sym (ap first e) ∙ f)) (wide-first text bare w), refl);
-}
+-- 1 at the first bytes of the words that a width follows
+takesWidth : ℕ → ℕ
+takesWidth b = cond (eqb b 98) 1 (cond (eqb b 116) 1 0)
+
+alone : {text : List ℕ} (t : Transform) (word : List ℕ) → text ≡ word → t ≡ byFirst (first word) 0 → takesWidth (first word) ≡ 0 → (NoWord text → ⊥) → Spelt text t
+unfolding takesWidth
+alone {text} t word e named none known =
+    let not-wide : (bare : List ℕ) → Wide text bare → ⊥ = λ bare w.
+    ⊎-elim
+    (λ f. let z : _≡_ {A = ℕ} 1 0 = ap takesWidth (sym f ∙ ap first e) ∙ none in omega arith)
+    (λ f. let z : _≡_ {A = ℕ} 1 0 = ap takesWidth (sym f ∙ ap first e) ∙ none in omega arith)
+    (wide-first text bare w) in
+    record { n = 0; named = named ∙ ap (λ l. byFirst (first l) 0) (sym e); known = known; wide = inl (not-wide, refl) }
 
 widened : {text : List ℕ} (t : Transform) (n : ℕ) (bare : List ℕ) → Wide text bare → SpellsWidth bare n → t ≡ byFirst (first text) n → Spelt text t
 widened {text} t n bare w s named = record { n = n; named = named; known = wide-known text bare w; wide = inr (bare, (w, s)) }
 
 spelt : (text : List ℕ) (t : Transform) → Spells text t → Spelt text t
-unfolding byFirst
-spelt text Identity e = alone Identity (codes "identity") e refl (λ q. omega arith) (λ q. omega arith) (λ w. w .fixed .identity e)
+unfolding byFirst takesWidth
+spelt text Identity e = alone Identity (codes "identity") e refl refl (λ w. w .fixed .identity e)
 spelt text (Bucket n) s = widened (Bucket n) n (s .0) (inl (s .1 .0)) (s .1 .1) (ap (λ l. byFirst (first l) n) (sym (s .1 .0 .1 .0)))
 spelt text (Truncate n) s = widened (Truncate n) n (s .0) (inr (s .1 .0)) (s .1 .1) (ap (λ l. byFirst (first l) n) (sym (s .1 .0 .1 .0)))
-spelt text Year e = alone Year (codes "year") e refl (λ q. omega arith) (λ q. omega arith) (λ w. w .fixed .year e)
-spelt text Month e = alone Month (codes "month") e refl (λ q. omega arith) (λ q. omega arith) (λ w. w .fixed .month e)
-spelt text Day e = alone Day (codes "day") e refl (λ q. omega arith) (λ q. omega arith) (λ w. w .fixed .day e)
-spelt text Hour e = alone Hour (codes "hour") e refl (λ q. omega arith) (λ q. omega arith) (λ w. w .fixed .hour e)
-spelt text Void e = alone Void (codes "void") e refl (λ q. omega arith) (λ q. omega arith) (λ w. w .fixed .void e)
-spelt text Unknown e = alone Unknown (codes "unknown") e refl (λ q. omega arith) (λ q. omega arith) (λ w. w .fixed .unknown e)
+spelt text Year e = alone Year (codes "year") e refl refl (λ w. w .fixed .year e)
+spelt text Month e = alone Month (codes "month") e refl refl (λ w. w .fixed .month e)
+spelt text Day e = alone Day (codes "day") e refl refl (λ w. w .fixed .day e)
+spelt text Hour e = alone Hour (codes "hour") e refl refl (λ w. w .fixed .hour e)
+spelt text Void e = alone Void (codes "void") e refl refl (λ w. w .fixed .void e)
+spelt text Unknown e = alone Unknown (codes "unknown") e refl refl (λ w. w .fixed .unknown e)
 
 same-width : {text : List ℕ} {s t : Transform} (p : Spelt text s) (q : Spelt text t) → p .n ≡ q .n
 same-width {text} p q =

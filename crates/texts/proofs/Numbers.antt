@@ -1,6 +1,6 @@
 -- Digits and their first wrong place: a text of digits has one reading only. Assumes nothing.
 use mathlib.Core.Path.{_≡_, refl, sym, ap, subst, _∙_}
-use mathlib.Core.Logic.{_⊎_, inl, inr, ⊎-elim}
+use mathlib.Core.Logic.{inl, inr, ⊎-elim}
 use mathlib.Core.List.{List, [], _∷_, _++_}
 use Prim.Native.Nat.{ℕ, _+_, _-_, _*_, _^_, _≤_, _<_}
 use native.Mathlib.Omega.{arith}
@@ -16,7 +16,8 @@ use Rattle.std.specs.declared.result.Result.{Result}
 use Rattle.std.specs.declared.result.Result.the-variants.{Ok, Err}
 use Rattle.texts.specs.declared.fault.TextFault.{TextFault}
 use Rattle.texts.specs.declared.fault.TextFault.the-variants.{WordUnknown, WidthMissing, WidthNonDigit, WidthOverflow, NotPrinted}
-use Rattle.texts.specs.Width.{Number, NonDigit, Overflow, SpellsWidth, Missing, Strange, TooLarge, DigitsReading, BareReading, WidthReading, OpenGone, CloseGone}
+use Rattle.texts.specs.Width.{Number, NonDigit, Overflow, SpellsWidth, Missing, Strange, TooLarge, OpenGone, CloseGone}
+use Rattle.texts.specs.Steps.{DigitsReading, BareReading, WidthReading}
 
 after-ge : (n : ℕ) (cs : List ℕ) → n ≤ valueAfter 10 n cs
 after-ge n [] = omega arith

@@ -1,6 +1,6 @@
 -- The first broken rule of a text, and that only one fault tells it. Assumes nothing.
 use mathlib.Core.Path.{_≡_, refl, sym, ap, subst, _∙_}
-use mathlib.Core.Logic.{_⊎_, inl, inr}
+use mathlib.Core.Logic.{inl, inr}
 use mathlib.Core.Bool.{cond}
 use mathlib.Core.List.{List, [], _∷_, _++_}
 use Prim.Native.Nat.{ℕ}
@@ -16,8 +16,9 @@ use Rattle.transforms.specs.declared.transform.Transform.{Transform}
 use Rattle.texts.specs.declared.fault.TextFault.{TextFault}
 use Rattle.texts.specs.declared.fault.TextFault.the-variants.{WordUnknown, WidthMissing, WidthNonDigit, WidthOverflow, NotPrinted}
 use Rattle.texts.specs.Tells.{told}
-use Rattle.texts.specs.Width.{BareReading, WidthReading, SpellsWidth, Missing, Strange, TooLarge}
-use Rattle.texts.specs.Words.{After, Wide, Spells, NotBegun, NoWord, FixedReading}
+use Rattle.texts.specs.Width.{SpellsWidth, Missing, Strange, TooLarge}
+use Rattle.texts.specs.Steps.{FixedReading, BareReading, WidthReading}
+use Rattle.texts.specs.Words.{After, Wide, Spells, NotBegun, NoWord}
 use Rattle.texts.specs.Reading.{textRules, LooseReading}
 use Rattle.texts.proofs.Heads.{wide-only, wide-known, spells-known, spells-wide}
 use Rattle.texts.proofs.Numbers.{missing-or-strange, missing-or-large, strange-or-large, missing-or-spelt, strange-or-spelt, large-or-spelt}
@@ -71,18 +72,14 @@ pub fixed-or-unknown : (text : List ℕ) (o : Option Transform) → FixedReading
 fixed-or-unknown text (Some t) f b c = f
 fixed-or-unknown text None f b c = inl (refl, record { fixed = f; bucket = b; truncate = c })
 
+-- a rule on what the brackets hold is kept where they hold a width
+unbroken : (n : ℕ) (P : List ℕ → Type 0) (text : List ℕ) (t : Transform) → Spells text t → ((bare : List ℕ) → P bare → (m : ℕ) → SpellsWidth bare m → ⊥) → Kept (rule n ((b : List ℕ) × (Wide text b × P b)))
+unbroken n P text t s apart =
+    kept n ((b : List ℕ) × (Wide text b × P b)) (λ b. let m = spells-wide text t s (b .0) (b .1 .0) in apart (b .0) (b .1 .1) (m .0) (m .1))
+
 -- a text that spells a transform breaks no rule
 pub spells-kept : (text : List ℕ) (t : Transform) → Spells text t → AllKept (textRules text)
-spells-kept text t s =
-    let wide : (n : ℕ) (P : List ℕ → Type 0) → ((bare : List ℕ) → Wide text bare → P bare → ⊥) → Kept (rule n ((b : List ℕ) × (Wide text b × P b)))
-    = λ n P none. kept n ((b : List ℕ) × (Wide text b × P b)) (λ b. none (b .0) (b .1 .0) (b .1 .1)) in
-    let at : (bare : List ℕ) (w : Wide text bare) → (n : ℕ) × SpellsWidth bare n = spells-wide text t s in (
-      kept 4 (NoWord text) (spells-known text t s),
-      (
-        wide 5 Missing (λ bare w m. let n = at bare w in missing-or-spelt bare m (n .0) (n .1)),
-        (
-          wide 6 Strange (λ bare w m. let n = at bare w in strange-or-spelt bare m (n .0) (n .1)),
-          (wide 7 TooLarge (λ bare w m. let n = at bare w in large-or-spelt bare m (n .0) (n .1)), tt),
-        ),
-      ),
-    )
+spells-kept text t s = (
+  kept 4 (NoWord text) (spells-known text t s),
+  (unbroken 5 Missing text t s missing-or-spelt, (unbroken 6 Strange text t s strange-or-spelt, (unbroken 7 TooLarge text t s large-or-spelt, tt))),
+)

@@ -1,6 +1,5 @@
 -- What printing and reading promise of each other. Assumes nothing.
 use mathlib.Core.Path.{_≡_}
-use mathlib.Core.Bool.{true}
 use mathlib.Core.List.{List}
 use Prim.Native.Nat.{ℕ}
 use Rattle.std.specs.Options.{Cases}
@@ -24,14 +23,14 @@ abbrev pub As-documented : Transform → Type 0
 As-documented t = Cases (documentText t) (t ≡ Unknown) (λ text. text ≡ printed t)
 
 -- a text is accepted just when it is the print of a transform
-abbrev pub Accepts-just-the-printed : List ℕ → Result Transform TextFault → Type 0
-Accepts-just-the-printed text r = Decides (isOk r) ((t : Transform) × Prints t text)
+abbrev pub Accepts-exactly-the-printed : List ℕ → Result Transform TextFault → Type 0
+Accepts-exactly-the-printed text r = Decides (isOk r) ((t : Transform) × Prints t text)
 
 -- what strict reading accepts, loose reading reads alike
 abbrev pub Read-loosely-too : List ℕ → Result Transform TextFault → Type 0
 Read-loosely-too text r = ByOk r (λ t. LooseReading text (Ok t)) (λ _. Unit {0})
 
 -- two texts that strict reading accepts are equal just when their transforms are
-abbrev pub Same-text-just-when-same-transform : Type 0
-Same-text-just-when-same-transform =
+abbrev pub Same-text-exactly-when-same-transform : Type 0
+Same-text-exactly-when-same-transform =
     (x y : List ℕ) (s t : Transform) → StrictReading x (Ok s) → StrictReading y (Ok t) → (x ≡ y → s ≡ t) × (s ≡ t → x ≡ y)

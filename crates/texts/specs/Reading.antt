@@ -12,7 +12,7 @@ use Rattle.texts.specs.Tells.{told}
 use Rattle.texts.specs.Width.{Missing, Strange, TooLarge}
 use Rattle.texts.specs.Words.{Wide, Spells, NoWord}
 
--- the rules of a text that is read loosely, in their order
+-- the rules of a text that is read loosely, in their order: 4 word unknown, 5 width missing, 6 width non-digit, 7 width overflow
 abbrev pub textRules : List ℕ → List Rule
 textRules text =
     rule 4 (NoWord text)
@@ -21,6 +21,7 @@ textRules text =
     ∷ rule 7 ((bare : List ℕ) × (Wide text bare × TooLarge bare))
     ∷ []
 
+-- a text that spells a transform is read as that transform, and any other is refused by its first broken rule
 abbrev pub LooseReading : List ℕ → Result Transform TextFault → Type 0
 LooseReading text (Ok t) = Spells text t
 LooseReading text (Err f) = FirstBroken (textRules text) (told f)
@@ -29,10 +30,11 @@ LooseReading text (Err f) = FirstBroken (textRules text) (told f)
 abbrev pub Prints : Transform → List ℕ → Type 0
 Prints t text = Narrow t × (text ≡ printed t)
 
--- the one rule of a text that is read strictly
+-- the one rule of a text that is read strictly: 13 not printed, it is the print of no transform
 abbrev pub printRules : List ℕ → List Rule
 printRules text = rule 13 ((t : Transform) → Prints t text → ⊥) ∷ []
 
+-- a text that is the print of a transform is read as that transform, and any other is refused
 abbrev pub StrictReading : List ℕ → Result Transform TextFault → Type 0
 StrictReading text (Ok t) = Prints t text
 StrictReading text (Err f) = FirstBroken (printRules text) (told f)

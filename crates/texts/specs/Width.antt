@@ -6,10 +6,6 @@ use Prim.Native.Nat.{ℕ, _+_, _-_, _^_, _≤_, _<_}
 use lib.ListN.{length, getD, take, replicate}
 use Rattle.std.specs.Text.{digitValue}
 use Rattle.std.specs.Reads.{Digits, value, afterPlus}
-use Rattle.std.specs.declared.result.Result.{Result}
-use Rattle.std.specs.declared.result.Result.the-variants.{Ok, Err}
-use Rattle.texts.specs.declared.fault.TextFault.{TextFault}
-use Rattle.texts.specs.declared.fault.TextFault.the-variants.{WordUnknown, WidthMissing, WidthNonDigit, WidthOverflow, NotPrinted}
 
 -- rest is text without its leading '['
 pub record OpenGone (text rest : List ℕ) : Type 0 where
@@ -27,52 +23,38 @@ pub record CloseGone (text rest : List ℕ) : Type 0 where
 abbrev pub Between : List ℕ → List ℕ → Type 0
 Between text bare = (rest : List ℕ) × (OpenGone text rest × CloseGone rest bare)
 
--- the digits spell a number of 32 bits
+-- one of '0' to '9'
+abbrev pub Digit : ℕ → Type 0
+Digit c = digitValue c < 10
+
+-- ds are digits, and spell the number n of 32 bits
 abbrev pub Number : List ℕ → ℕ → Type 0
 Number ds n = Digits 10 ds × (value 10 ds ≡ n) × (n < 2 ^ 32)
 
--- before the place k all is well, and at k is something
+-- something stands at the place k, and before it all is well: digits, of a number of 32 bits
 abbrev pub WellUpTo : List ℕ → ℕ → Type 0
 WellUpTo ds k = (k < length ds) × Digits 10 (take k ds) × (value 10 (take k ds) < 2 ^ 32)
 
 -- the first wrong place holds no digit
 abbrev pub NonDigit : List ℕ → Type 0
-NonDigit ds = (k : ℕ) × (WellUpTo ds k × (digitValue (getD ds k 0) < 10 → ⊥))
+NonDigit ds = (k : ℕ) × (WellUpTo ds k × (Digit (getD ds k 0) → ⊥))
 
 -- the first wrong place holds a digit, which takes the number past 32 bits
 abbrev pub Overflow : List ℕ → Type 0
-Overflow ds = (k : ℕ) × (WellUpTo ds k × (digitValue (getD ds k 0) < 10) × (2 ^ 32 ≤ value 10 (take (k + 1) ds)))
+Overflow ds = (k : ℕ) × (WellUpTo ds k × Digit (getD ds k 0) × (2 ^ 32 ≤ value 10 (take (k + 1) ds)))
 
--- bare spells n: digits, after at most one plus
+-- bare spells n: digits, and at least one, after at most one plus
 abbrev pub SpellsWidth : List ℕ → ℕ → Type 0
 SpellsWidth bare n = (0 < length (afterPlus bare)) × Number (afterPlus bare) n
 
--- nothing is left
+-- nothing is left between the brackets
 abbrev pub Missing : List ℕ → Type 0
 Missing bare = bare ≡ []
 
--- a lone plus, or a first wrong place that holds no digit
+-- a lone plus is left, or something whose first wrong place holds no digit
 abbrev pub Strange : List ℕ → Type 0
 Strange bare = (bare ≡ 43 ∷ []) ⊎ NonDigit (afterPlus bare)
 
--- a first wrong place whose digit takes the number past 32 bits
+-- something is left whose first wrong place holds a digit, which takes the number past 32 bits
 abbrev pub TooLarge : List ℕ → Type 0
 TooLarge bare = Overflow (afterPlus bare)
-
--- what reading a number answers, by what holds where it answers so
-abbrev pub Answers : (ℕ → Type 0) → Type 0 → Type 0 → Type 0 → Result ℕ TextFault → Type 0
-Answers spelt missing strange large (Ok n) = spelt n
-Answers spelt missing strange large (Err WordUnknown) = ⊥
-Answers spelt missing strange large (Err WidthMissing) = missing
-Answers spelt missing strange large (Err WidthNonDigit) = strange
-Answers spelt missing strange large (Err WidthOverflow) = large
-Answers spelt missing strange large (Err NotPrinted) = ⊥
-
-abbrev pub DigitsReading : List ℕ → Result ℕ TextFault → Type 0
-DigitsReading ds r = Answers (Number ds) ⊥ (NonDigit ds) (Overflow ds) r
-
-abbrev pub BareReading : List ℕ → Result ℕ TextFault → Type 0
-BareReading bare r = Answers (SpellsWidth bare) (Missing bare) (Strange bare) (TooLarge bare) r
-
-abbrev pub WidthReading : List ℕ → Result ℕ TextFault → Type 0
-WidthReading text r = (bare : List ℕ) × (Between text bare × BareReading bare r)

@@ -1,11 +1,9 @@
 -- The words of transforms' texts: those that stand alone, and those that a width follows. Assumes nothing.
 use mathlib.Core.Path.{_≡_}
 use mathlib.Core.Logic.{_⊎_}
-use mathlib.Core.List.{List, [], _∷_, _++_}
+use mathlib.Core.List.{List, _++_}
 use Prim.Native.Nat.{ℕ}
 use lib.Chars.{codes}
-use Rattle.std.specs.declared.option.Option.{Option}
-use Rattle.std.specs.declared.option.Option.the-variants.{Some, None}
 use Rattle.transforms.specs.declared.transform.Transform.{Transform}
 use Rattle.transforms.specs.declared.transform.Transform.the-variants.{Identity, Bucket, Truncate, Year, Month, Day, Hour, Void, Unknown}
 use Rattle.texts.specs.Width.{Between, SpellsWidth}
@@ -14,7 +12,7 @@ use Rattle.texts.specs.Width.{Between, SpellsWidth}
 abbrev pub After : List ℕ → List ℕ → List ℕ → Type 0
 After word text bare = (rest : List ℕ) × ((text ≡ word ++ rest) × Between rest bare)
 
--- text begins with one of the words that a width follows
+-- text begins with one of the words that a width follows, and bare stands in brackets after it
 abbrev pub Wide : List ℕ → List ℕ → Type 0
 Wide text bare = After (codes "bucket") text bare ⊎ After (codes "truncate") text bare
 
@@ -40,16 +38,12 @@ pub record NotFixed (text : List ℕ) : Type 0 where
   pub void : text ≡ codes "void" → ⊥
   pub unknown : text ≡ codes "unknown" → ⊥
 
+-- text does not begin with the word
 abbrev pub NotBegun : List ℕ → List ℕ → Type 0
 NotBegun word text = (rest : List ℕ) → text ≡ word ++ rest → ⊥
 
--- no word of a transform stands in text
+-- text is no word that stands alone, and begins with none that a width follows
 pub record NoWord (text : List ℕ) : Type 0 where
   pub fixed : NotFixed text
   pub bucket : NotBegun (codes "bucket") text
   pub truncate : NotBegun (codes "truncate") text
-
--- what looking for a word that stands alone answers
-abbrev pub FixedReading : List ℕ → Option Transform → Type 0
-FixedReading text (Some t) = Spells text t
-FixedReading text None = NotFixed text

@@ -1,7 +1,7 @@
 // Transforms as text.
 ghost use mathlib.Core.Path.{_≡_};
 ghost use mathlib.Core.List.{_++_};
-ghost use Prim.Native.Nat.{ℕ, _+_, _-_, _≤_, _<_};
+ghost use Prim.Native.Nat.{_+_, _-_, _≤_, _<_};
 ghost use lib.ListN.{length, drop};
 ghost use lib.Chars.{codes};
 ghost use Rattle.std.specs.Written.{decimal};
@@ -55,18 +55,19 @@ fn put_word(out: &mut [u8], word: &[u8]) -> Result<usize, OutputShort>
 fn put_width(out: &mut [u8], word: &[u8], n: u32) -> Result<usize, OutputShort>
     ensures { λ r. ⌜ Wrote (now (word .entry) ++ (decimal n ++ codes "]")) (now (out .entry)) (now (out .exit)) r ⌝ }
 {
-    let d = decimal_of(n);
-    let a = word.len();
-    let b = a + (10 - d.from);
-    if out.len() <= b {
+    let digits = decimal_of(n);
+    let start = word.len();
+    let end = start + (10 - digits.from);
+    if out.len() <= end {
         return Err(OutputShort);
     }
-    out[0..a].copy_from_slice(word);
-    out[a..b].copy_from_slice(&d.bytes[d.from..10]);
-    out[b] = b']';
-    Ok(b + 1)
+    out[0..start].copy_from_slice(word);
+    out[start..end].copy_from_slice(&digits.bytes[digits.from..10]);
+    out[end] = b']';
+    Ok(end + 1)
 }
 
+// Filled from the end, since the last digit comes first.
 fn decimal_of(n: u32) -> Decimal
     ensures digits { λ r. ⌜ drop (r .from) (r .bytes) ≡ decimal n ⌝ }
     ensures within { λ r. ⌜ r .from ≤ 10 ⌝ }

@@ -3,10 +3,10 @@ ghost use mathlib.Core.Path.{_≡_};
 ghost use Rattle.std.specs.declared.result.Result.{Result};
 ghost use Rattle.transforms.specs.declared.transform.Transform.{Transform};
 ghost use Rattle.texts.specs.declared.fault.TextFault.{TextFault};
-ghost use Rattle.texts.specs.Width.{DigitsReading, OpenGone, CloseGone, WidthReading};
-ghost use Rattle.texts.specs.Words.{FixedReading};
+ghost use Rattle.texts.specs.Width.{OpenGone, CloseGone};
+ghost use Rattle.texts.specs.Steps.{FixedReading, DigitsReading, WidthReading};
 ghost use Rattle.texts.specs.Reading.{LooseReading, StrictReading};
-ghost use Rattle.texts.specs.Promises.{Accepts-just-the-printed, Read-loosely-too, Same-text-just-when-same-transform};
+ghost use Rattle.texts.specs.Promises.{Accepts-exactly-the-printed, Read-loosely-too, Same-text-exactly-when-same-transform};
 use super::fault::TextFault;
 use super::print::OutputShort;
 use super::print::print;
@@ -29,9 +29,9 @@ pub fn loose(text: &[u8]) -> Result<Transform, TextFault>
 // Reads just the texts that `print` writes.
 pub fn strict(text: &[u8]) -> Result<Transform, TextFault>
     ensures reading { λ r. ⌜ StrictReading (now (text .entry)) r ⌝ }
-    ensures accepts { λ r. ⌜ Accepts-just-the-printed (now (text .entry)) r ⌝ }
+    ensures accepts { λ r. ⌜ Accepts-exactly-the-printed (now (text .entry)) r ⌝ }
     ensures loosely { λ r. ⌜ Read-loosely-too (now (text .entry)) r ⌝ }
-    ensures same { λ _. ⌜ Same-text-just-when-same-transform ⌝ }
+    ensures same { λ _. ⌜ Same-text-exactly-when-same-transform ⌝ }
 {
     let transform = match loose(text) {
         Ok(transform) => transform,
@@ -116,11 +116,11 @@ fn digits(text: &[u8]) -> Result<u32, TextFault>
     for b in text {
         match *b as char {
             '0'..='9' => {
-                let d = (*b - b'0') as u32;
-                if n > (u32::MAX - d) / 10 {
+                let digit = (*b - b'0') as u32;
+                if n > (u32::MAX - digit) / 10 {
                     return Err(TextFault::WidthOverflow);
                 }
-                n = n * 10 + d;
+                n = n * 10 + digit;
             }
             _ => return Err(TextFault::WidthNonDigit),
         }

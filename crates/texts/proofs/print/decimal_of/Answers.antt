@@ -1,3 +1,4 @@
+-- Each turn puts the last digit of what is left before those that stand.
 use native.Mathlib.Omega.{arith}
 use mathlib.Core.Path.{sym, ap, _∙_}
 use Prim.Native.Nat.{_+_, _-_}

@@ -1,3 +1,4 @@
+-- The digits of what is left, and those that stand, are those of the number.
 use mathlib.Core.Path.{_≡_}
 use mathlib.Core.List.{_++_}
 use Prim.Native.Nat.{_^_, _≤_, _<_}

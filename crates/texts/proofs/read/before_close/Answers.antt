@@ -1,3 +1,4 @@
+-- Each turn drops one closing bracket.
 use Prim.Native.Nat.{suc, _-_}
 use borrow.Author.Tests.{ltb-true, ltb-false}
 use native.Mathlib.Omega.{arith}

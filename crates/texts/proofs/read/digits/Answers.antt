@@ -3,8 +3,8 @@ use native.Mathlib.Omega.{arith}
 use Rattle.texts.proofs.Numbers.{non-digit-at, overflow-at, digit-more, number-all}
 use Rattle.texts.proofs.read.digits.Needs as need
 
-pub returns-then-n-d : need.returns-then-n-d
-returns-then-n-d c =
+pub returns-then-n-digit : need.returns-then-n-digit
+returns-then-n-digit c =
     overflow-at (c .args .text .now) (c .loop-b .b-index) (c .loop-b .n) (c .loop-b-test .taken) (c .loop-b .inv) (omega arith, omega arith) (omega arith)
 
 pub returns-in-rest : need.returns-in-rest

@@ -18,7 +18,7 @@ pub returns-in-98 : need.returns-in-98
 returns-in-98 c =
     let text = c .args .text .now in
     let n = c .in-Continue-width .field-0 in
-    let e = begun (codes "bucket") text (omega (arith, ltb-true, ltb-false)) (search needs) in
+    let e = begun (codes "bucket") text (omega (arith, ltb-true, ltb-false)) (search arith) in
     let r = spelt-after (codes "bucket") text _ n e (c .in-Continue-width .ensures tt) in
     record { reading = r; only = λ s. loose-only text (Ok (Bucket n)) s r }
 
@@ -26,14 +26,14 @@ pub returns-in-116 : need.returns-in-116
 returns-in-116 c =
     let text = c .args .text .now in
     let n = c .in-Continue-width-2 .field-0 in
-    let e = begun (codes "truncate") text (omega (arith, ltb-true, ltb-false)) (search needs) in
+    let e = begun (codes "truncate") text (omega (arith, ltb-true, ltb-false)) (search arith) in
     let r = spelt-after (codes "truncate") text _ n e (c .in-Continue-width-2 .ensures tt) in
     record { reading = r; only = λ s. loose-only text (Ok (Truncate n)) s r }
 
 pub returns-in-Break-width : need.returns-in-Break-width
 returns-in-Break-width c =
     let text = c .args .text .now in
-    let e = begun (codes "bucket") text (omega (arith, ltb-true, ltb-false)) (search needs) in
+    let e = begun (codes "bucket") text (omega (arith, ltb-true, ltb-false)) (search arith) in
     let p = err-from-errBy (c .from-residual .result) (c .from-residual .ensures .1) in
     let r = subst (LooseReading text) (sym (p .1 ∙ ap (λ f. Err f) (p .2))) (refused-after (codes "bucket") text _ (λ _ a. inl a) e (c .in-Break-width .field-0 .0) (c .in-Break-width .ensures tt)) in
     record { reading = r; only = λ s. loose-only text (c .from-residual .result) s r }
@@ -41,7 +41,7 @@ returns-in-Break-width c =
 pub returns-in-Break-width-2 : need.returns-in-Break-width-2
 returns-in-Break-width-2 c =
     let text = c .args .text .now in
-    let e = begun (codes "truncate") text (omega (arith, ltb-true, ltb-false)) (search needs) in
+    let e = begun (codes "truncate") text (omega (arith, ltb-true, ltb-false)) (search arith) in
     let p = err-from-errBy (c .from-residual-in-Break-width-2 .result) (c .from-residual-in-Break-width-2 .ensures .1) in
     let r = subst (LooseReading text) (sym (p .1 ∙ ap (λ f. Err f) (p .2))) (refused-after (codes "truncate") text _ (λ _ a. inr a) e (c .in-Break-width-2 .field-0 .0) (c .in-Break-width-2 .ensures tt)) in
     record { reading = r; only = λ s. loose-only text (c .from-residual-in-Break-width-2 .result) s r }

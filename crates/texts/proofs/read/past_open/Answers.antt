@@ -1,9 +1,10 @@
-use mathlib.Core.Path.{_≡_, ap, sym, _∙_}
+-- Each turn drops one opening bracket.
+use mathlib.Core.Path.{ap, sym, _∙_}
 use mathlib.Core.List.{_++_}
 use Prim.Native.Nat.{_+_}
 use borrow.Author.Tests.{ltb-true, ltb-false}
 use native.Mathlib.Omega.{arith}
-use lib.ListN.{replicate, length, getD}
+use lib.ListN.{replicate}
 use Rattle.std.proofs.shelf.Lists.{take-rest, getD-past}
 use Rattle.texts.proofs.Dropped.{one-open}
 use Rattle.texts.proofs.read.past_open.Needs as need

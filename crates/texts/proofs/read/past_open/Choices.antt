@@ -1,3 +1,4 @@
+-- What was dropped are opening brackets.
 use mathlib.Core.Path.{_≡_}
 use mathlib.Core.List.{_++_}
 use Prim.Native.Nat.{ℕ}

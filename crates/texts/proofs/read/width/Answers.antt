@@ -9,7 +9,7 @@ use Rattle.std.specs.declared.result.Result.the-variants.{Err}
 use Rattle.std.proofs.shelf.Lists.{take-rest, nil-from-length}
 use Rattle.std.proofs.shelf.Numerals.{afterPlus-none, afterPlus-plus}
 use Rattle.texts.specs.declared.fault.TextFault.the-variants.{WidthMissing, WidthNonDigit}
-use Rattle.texts.specs.Width.{DigitsReading}
+use Rattle.texts.specs.Steps.{DigitsReading}
 use Rattle.texts.proofs.Numbers.{read-after-plus, lone-plus, width-so}
 use Rattle.texts.proofs.read.width.Needs as need
 
