@@ -3,7 +3,6 @@ use mathlib.Core.Path.{_≡_}
 use mathlib.Core.Bool.{Bool}
 use mathlib.Core.List.{List}
 use Prim.Native.Nat.{ℕ}
-use Rattle.std.specs.Of.Vec.{vec-items}
 use Rattle.std.specs.Orderings.{Decides}
 use Rattle.std.specs.Results.{Cases}
 use Rattle.std.specs.declared.result.Result.{Result}
@@ -21,9 +20,7 @@ use Rattle.transforms.specs.declared.datatypes.«Type».{«Type» as ColumnType
 use Rattle.transforms.specs.declared.transform.Transform.{Transform}
 use Rattle.transforms.specs.declared.transform.TypeFault.{TypeFault}
 use Rattle.script.specs.declared.answer.Answer.{Answer}
-use Rattle.script.specs.declared.answer.Answer.the-variants.{Done, Printed, ResultIs, Test, Refused, NotYet}
-use Rattle.script.specs.declared.command.Command.{Command}
-use Rattle.script.specs.declared.command.Command.the-variants.{Name, Transform as TransformOf, Strict, ResultType as ResultTypeOf, Preserves, Satisfies as SatisfiesOf, Alike as AlikeOf, Later}
+use Rattle.script.specs.declared.answer.Answer.the-variants.{Done, Printed, ResultIs, Test, Refused, Line, NoSpec, NotYet}
 
 -- the answer is a refusal, and what it tells is so
 abbrev pub Refuses : Answer → (Told → Type 0) → Type 0
@@ -32,6 +29,8 @@ Refuses (Printed t) P = ⊥
 Refuses (ResultIs t) P = ⊥
 Refuses (Test b) P = ⊥
 Refuses (Refused r) P = P (toldBy r)
+Refuses (Line l) P = ⊥
+Refuses NoSpec P = ⊥
 Refuses NotYet P = ⊥
 
 -- the answer says whether P holds
@@ -41,6 +40,8 @@ Tests (Printed t) P = ⊥
 Tests (ResultIs t) P = ⊥
 Tests (Test b) P = Decides b P
 Tests (Refused r) P = ⊥
+Tests (Line l) P = ⊥
+Tests NoSpec P = ⊥
 Tests NotYet P = ⊥
 
 -- a name is good, or refused by the first rule that it breaks
@@ -50,6 +51,8 @@ NameAnswer name (Printed t) = ⊥
 NameAnswer name (ResultIs t) = ⊥
 NameAnswer name (Test b) = ⊥
 NameAnswer name (Refused r) = FirstBroken (nameRules name) (toldBy r)
+NameAnswer name (Line l) = ⊥
+NameAnswer name NoSpec = ⊥
 NameAnswer name NotYet = ⊥
 
 -- the text is read loosely, and the answer is that of its transform, or its refusal
@@ -75,13 +78,3 @@ SatisfiesAnswer text other = OfText text (λ s. OfText other (λ t a. Tests a (S
 
 abbrev pub AlikeAnswer : List ℕ → List ℕ → Answer → Type 0
 AlikeAnswer text other = OfText text (λ s. OfText other (λ t a. Tests a (Alike s t)))
-
-abbrev pub Answered : Command → Answer → Type 0
-Answered (Name name) a = NameAnswer (vec-items name) a
-Answered (TransformOf text) a = TransformAnswer (vec-items text) a
-Answered (Strict text) a = StrictAnswer (vec-items text) a
-Answered (ResultTypeOf text s) a = ResultAnswer (vec-items text) s a
-Answered (Preserves text) a = PreservesAnswer (vec-items text) a
-Answered (SatisfiesOf text other) a = SatisfiesAnswer (vec-items text) (vec-items other) a
-Answered (AlikeOf text other) a = AlikeAnswer (vec-items text) (vec-items other) a
-Answered Later a = a ≡ NotYet

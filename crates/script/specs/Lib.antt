@@ -1,5 +1,3 @@
-pub mod Hex
-pub mod Words
 pub mod Shown
 pub mod Answers
 pub mod Normal

@@ -1,0 +1,6 @@
+// The commands of a plan script, read from its lines.
+pub mod command;
+pub mod fault;
+mod types;
+mod verb;
+mod word;

@@ -1,0 +1,3 @@
+// Big-endian numbers in bytes.
+pub mod put;
+pub mod read;

@@ -1,0 +1,9 @@
+pub mod Finding
+pub mod Ruled
+pub mod Judging
+pub mod Papers
+pub mod Builds
+pub mod Kept
+pub mod Adding
+pub mod Batching
+pub mod Same

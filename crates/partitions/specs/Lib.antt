@@ -1,0 +1,11 @@
+pub mod Places
+pub mod Fields
+pub mod Views
+pub mod DraftFaults
+pub mod AddRules
+pub mod Buildable
+pub mod Adds
+pub mod Listed
+pub mod BatchFaults
+pub mod Batches
+pub mod Specs

@@ -1,9 +1,0 @@
--- Past the last verb, none has the word.
-use mathlib.Core.Path.{_≡_}
-use native.Mathlib.Omega.{arith}
-use Rattle.script.specs.Words.{wordOf}
-use Rattle.script.proofs.Verbs.{of-each}
-use Rattle.script.proofs.verb.Verb.read.Needs as need
-
-pub returns : need.returns
-returns c = of-each (λ verb. wordOf verb ≡ c .args .word .now → ⊥) (λ k h. c .loop-verb .inv k (omega arith))

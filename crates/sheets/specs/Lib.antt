@@ -1,0 +1,5 @@
+pub mod TypeCodes
+pub mod Sheets
+pub mod Decoded
+pub mod SheetColumns
+pub mod Standing

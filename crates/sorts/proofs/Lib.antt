@@ -1,0 +1,6 @@
+pub mod Answered
+pub mod Equality
+pub mod Zeros
+pub mod Checked
+pub mod Fitting
+pub mod Built

@@ -1,0 +1,4 @@
+pub mod Zero
+pub mod SortRules
+pub mod Drafts
+pub mod Promises
