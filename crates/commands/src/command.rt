@@ -91,11 +91,8 @@ impl Command {
             Verb::Column | Verb::Columns | Verb::Regular | Verb::Sheet | Verb::Select => {
                 of_columns(heap, verb, rest)?
             }
-            Verb::SortNew
-            | Verb::SortId
-            | Verb::Sort
-            | Verb::SortBuild
-            | Verb::SortBuildUnbound => of_sort(heap, verb, rest)?,
+            Verb::SortNew | Verb::SortId | Verb::Sort | Verb::SortBuild | Verb::SortBuildUnbound =>
+                of_sort(heap, verb, rest)?,
             Verb::Name
             | Verb::Transform
             | Verb::Strict

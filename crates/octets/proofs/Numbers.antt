@@ -114,12 +114,13 @@ number-placed (suc k) (x ∷ xs) h =
 
 -- what from_be_bytes gives of xs, the bytes from a place on
 pub read-at : (k at n : ℕ) (bs xs : List ℕ) → ((i : ℕ) → Fits w8 (getD bs i 0)) → xs ≡ drop at bs → 0 < k → k ≤ length xs → n ≡ placed k 0 xs
-  → (at + k ≤ length bs) × (take k (drop at bs) ≡ bigEndian k n)
+    → (at + k ≤ length bs) × (take k (drop at bs) ≡ bigEndian k n)
 read-at k at n bs xs t from some enough e =
     let whole : length xs ≡ length bs - at = ap length from ∙ length-drop at bs in
-    let len : length (take k xs) ≡ k = length-take-le k xs enough in
-    (omega arith,
-     ap (take k) (sym from) ∙ sym (be-number (take k xs) (all-take _ k xs (subst Bytes (sym from) (all-drop _ at bs (bytes-from-fits bs t))))) ∙ (λ i. bigEndian (len i) (sym (e ∙ number-placed k xs enough) i)))
+    let len : length (take k xs) ≡ k = length-take-le k xs enough in (
+      omega arith,
+      ap (take k) (sym from) ∙ sym (be-number (take k xs) (all-take _ k xs (subst Bytes (sym from) (all-drop _ at bs (bytes-from-fits bs t))))) ∙ (λ i. bigEndian (len i) (sym (e ∙ number-placed k xs enough) i)),
+    )
 
 pub past-end : (k at : ℕ) (bs xs : List ℕ) → xs ≡ drop at bs → length xs < k → length bs < at + k
 past-end k at bs xs from short = omega (arith, ap length from, length-drop at bs)

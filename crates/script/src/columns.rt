@@ -53,12 +53,13 @@ impl Columns {
         let start = self.names.len();
         let length = line.name.len();
         self.names.extend_from_slice(line.name.as_slice())?;
-        self.records.push(ColumnRecord {
-            id: line.id,
-            field_type: line.field_type,
-            is_marked: line.is_marked,
-            name: NamePlace { start, length },
-        })?;
+        self.records
+            .push(ColumnRecord {
+                id: line.id,
+                field_type: line.field_type,
+                is_marked: line.is_marked,
+                name: NamePlace { start, length },
+            })?;
         Ok(())
     }
 

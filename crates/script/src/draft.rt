@@ -50,12 +50,13 @@ impl Batch {
         let start = self.names.len();
         let length = line.name.len();
         self.names.extend_from_slice(line.name.as_slice())?;
-        self.fields.push(BatchField {
-            source_id: line.source_id,
-            field_id: line.field_id,
-            name: NamePlace { start, length },
-            transform,
-        })?;
+        self.fields
+            .push(BatchField {
+                source_id: line.source_id,
+                field_id: line.field_id,
+                name: NamePlace { start, length },
+                transform,
+            })?;
         Ok(())
     }
 

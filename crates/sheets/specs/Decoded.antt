@@ -37,6 +37,7 @@ unfoldable pub rowsAt : ℕ → List ℕ → List SheetRow
 rowsAt zero bs = []
 rowsAt (suc k) bs = rowAt bs ∷ rowsAt k (drop (14 + getD bs 13 0) bs)
 
+-- as many rows as are told behind them
 unfoldable pub guess : List ℕ → List SheetRow
 guess bs = rowsAt (number (take 2 (drop (length bs - 4) bs))) bs
 
@@ -48,5 +49,6 @@ areBytes (b ∷ bs) = ltb b 256 && areBytes bs
 unfoldable pub isSheet : List ℕ → Bool
 isSheet bs = sameBytes bs (sheetBytes (guess bs)) && (areBytes bs && ltb (length bs) 65540)
 
+-- bytes that are no sheet have none
 unfoldable pub rowsOf : List ℕ → List SheetRow
 rowsOf bs = cond (isSheet bs) (guess bs) []

@@ -28,11 +28,11 @@ pub record RowFits (row : SheetRow) : Type 0 where
   pub parameters : Fit (parameters (row .column .«field_type»))
   pub name : length (row .name) < 256
 
--- the rows, how many they are, and how long
+-- the rows, their count, and the distance from there back to the first
 unfoldable pub sheetBytes : List SheetRow → List ℕ
 sheetBytes rows = joined rowBytes rows ++ (be2 (length rows) ++ be2 (length (joined rowBytes rows)))
 
--- the bytes are the sheet of the rows
+-- the bytes are the sheet of the rows, whose count and length fit two bytes each
 pub record SheetOf (bytes : List ℕ) (rows : List SheetRow) : Type 0 where
   pub is : bytes ≡ sheetBytes rows
   pub octets : Bytes bytes

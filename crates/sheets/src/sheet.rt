@@ -1,5 +1,5 @@
-// Column sheets. Rows, then how many they are and how long, two bytes each. A row: id (4 bytes), code of the type (1),
-// parameters of the type (8), length of the name (1), name.
+// Column sheets: rows, then their count and the distance back to the first, two bytes each. A row: id (4 bytes), code of
+// the type (1), parameters of the type (8), length of the name (1), name. Numbers are big-endian, ids in two's complement.
 ghost use mathlib.Core.Path.{_≡_};
 ghost use denote.Ref.{now as behind};
 ghost use Rattle.sheets.specs.Decoded.{isSheet};

@@ -1,4 +1,5 @@
 use mathlib.Core.Path.{refl, sym, subst, _∙_}
+use native.Mathlib.Omega.{arith}
 use Rattle.sheets.specs.Standing.{Reads-column}
 use Rattle.sheets.proofs.Codes.{column-read, no-type, other-parameters}
 use Rattle.sheets.proofs.sheet.code.read_column.Needs as need
@@ -9,7 +10,7 @@ returns-in-Break-field-type c =
 
 pub returns-then-parameters-of-parameters : need.returns-then-parameters-of-parameters
 returns-then-parameters-of-parameters c =
-    other-parameters (c .args .byte) (c .args .parameters) _ (c .fits .parameters .fits) (c .in-Continue-field-type .ensures tt) (λ e. c .if-parameters-of-parameters .taken (c .parameters-of .ensures ∙ e))
+    other-parameters (c .args .byte) (c .args .parameters) _ (c .fits .parameters .fits) (c .in-Continue-field-type .ensures tt) (λ e. omega (arith, c .parameters-of .ensures))
 
 pub returns : need.returns
 returns c =
