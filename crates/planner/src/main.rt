@@ -16,9 +16,13 @@ const HELP: &str = "planner: plays a plan script and prints one answer for each 
                              of several texts, whether they are one transform
   planner --help             this text
 
-Commands of a script: name NAME, transform TEXT, strict TEXT, result TEXT TYPE, preserves TEXT,
-satisfies TEXT TEXT, alike TEXT TEXT. The others of the language answer not-yet.
-docs/SCRIPT.md has the language, and examples/ has scripts to run.";
+Commands of a script:
+  columns    column ID TYPE NAME [marked], columns clear, regular, sheet HEX, select ID.., select all
+  texts      name NAME, transform TEXT, strict TEXT, result TEXT TYPE, preserves TEXT,
+             satisfies TEXT TEXT, alike TEXT TEXT
+  drafts     unbound, spec-id N, add SOURCE ID|- NAME TEXT, batch N, close
+  orders     sort-new, sort-id N, sort SOURCE TEXT asc|desc first|last, sort-build, sort-build-unbound
+The others of the language answer not-yet. docs/SCRIPT.md has the language, and examples/ has scripts to run.";
 
 // The status is 1 where a run fails, and standard error says why.
 fn main(rt: LibcRuntime) -> Result<(), AnyError> {
