@@ -1,0 +1,5 @@
+pub mod Ids
+pub mod Numbering
+pub mod OneField
+pub mod Outcome
+pub mod Examples
