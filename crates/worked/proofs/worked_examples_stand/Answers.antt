@@ -4,4 +4,4 @@ use Rattle.worked.proofs.Sorts.{zero_is_the_unsorted_order, sorted_by_what_is_pr
 use Rattle.worked.proofs.worked_examples_stand.Goals as goal
 
 pub returns : goal.returns
-returns c = record { sixteen = sixteen_in_other_words; wrong-place = first_wrong_place_decides; zero = zero_is_the_unsorted_order; primitive = sorted_by_what_is_primitive }
+returns c = record { sixteen = sixteen_in_other_words; wrong_place = first_wrong_place_decides; zero = zero_is_the_unsorted_order; primitive = sorted_by_what_is_primitive }

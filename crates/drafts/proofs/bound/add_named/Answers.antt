@@ -12,8 +12,8 @@ pub returns : goal.returns
 returns g c =
     let columns = g.S.Schema.columns c.args.schema.now in
     let fits : SFits w32 c.in-Some.source.id = search rules in
-    let is : on_named columns c.args.source-name.now c.args.name.now c.args.transform ≡ Some (field_of c.in-Some.source.id None c.args.name.now c.args.transform)
+    let is : on_named columns c.args.source_name.now c.args.name.now c.args.transform ≡ Some (field_of c.in-Some.source.id None c.args.name.now c.args.transform)
     = ap (option_map (λ id. field_of id None c.args.name.now c.args.transform)) (sym c.in-Some.ensures.leads) in
-    let a : AddsBound columns (listed c.args.fields.now) (field_of c.in-Some.source.id None c.args.name.now c.args.transform) c.add-bound.result (listed c.add-bound.new.fields)
-    = simp to_z-of_z at c.add-bound.ensures in
-    named_add columns (listed c.args.fields.now) _ _ is c.add-bound.result (listed c.add-bound.new.fields) a
+    let a : AddsBound columns (listed c.args.fields.now) (field_of c.in-Some.source.id None c.args.name.now c.args.transform) c.add_bound.result (listed c.add_bound.new.fields)
+    = simp to_z-of_z at c.add_bound.ensures in
+    named_add columns (listed c.args.fields.now) _ _ is c.add_bound.result (listed c.add_bound.new.fields) a

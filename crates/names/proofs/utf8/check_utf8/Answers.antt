@@ -18,7 +18,7 @@ loop-i-preserved c = elim c.match-machine.branch [
       (at_start c.args.bytes.now c.loop-i.i _ _ c.loop-i.front _ c.loop-i.invariant c.loop-i-test.true refl c.step.ensures (ap due w.in-Start.is))
   | in-default w ↦
       subst (Sofar c.args.bytes.now _ _) (sym w.front-is)
-      (at_other c.args.bytes.now c.loop-i.i _ _ c.loop-i.front _ c.loop-i.invariant c.loop-i-test.true refl c.step.ensures (not_start _ w.in-default.not-Start))
+      (at_other c.args.bytes.now c.loop-i.i _ _ c.loop-i.front _ c.loop-i.invariant c.loop-i-test.true refl c.step.ensures (not_start _ w.in_default.not-Start))
 ]
 
 pub returns-then-front-bytes : goal.returns-then-front-bytes

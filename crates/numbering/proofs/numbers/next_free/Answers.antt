@@ -10,15 +10,15 @@ loop-next-init g c =
     let fl : SFits w32 c.args.last = c.ranges.last in
     simp to_z-of_z (passed_none (map g.T.StatesId.stated c.args.fields.now) c.args.last)
 
-pub returns-then-not-some-states : goal.returns-then-not-some-states
-returns-then-not-some-states g c =
+pub returns-then-not-some_states : goal.returns-then-not-some_states
+returns-then-not-some_states g c =
     let fl : SFits w32 c.args.last = c.ranges.last in
     let next = c.in-Some.next in
     let fx : SFits w32 next = search rules in
     let draft = map g.T.StatesId.stated c.args.fields.now in
     let p : Passed draft c.args.last c.loop-next.n = simp (to_z-of_z, c.loop-next.n-is) at c.loop-next.invariant in
     let is : next ≡ c.loop-next.n +ℤ pos 1 = simp c.loop-next.n-is at c.in-Some.ensures in
-    let d : Decides false (Has draft (Some next)) = simp to_z-of_z at c.if-not-some-states.ensures in
+    let d : Decides false (Has draft (Some next)) = simp to_z-of_z at c.if-not-some_states.ensures in
     simp to_z-of_z (free_here draft c.args.last c.loop-next.n p next is fx (not_from_Decides false d refl))
 
 pub loop-next-preserved : goal.loop-next-preserved
@@ -29,7 +29,7 @@ loop-next-preserved g c =
     let draft = map g.T.StatesId.stated c.args.fields.now in
     let p : Passed draft c.args.last c.loop-next.n = simp (to_z-of_z, c.loop-next.n-is) at c.loop-next.invariant in
     let is : next ≡ c.loop-next.n +ℤ pos 1 = simp c.loop-next.n-is at c.in-Some.ensures in
-    let d : Decides true (Has draft (Some next)) = simp to_z-of_z at c.if-not-some-states.ensures in
+    let d : Decides true (Has draft (Some next)) = simp to_z-of_z at c.if-not-some_states.ensures in
     simp to_z-of_z (passed_more draft c.args.last c.loop-next.n p next is (d.0 refl))
 
 pub returns : goal.returns
@@ -37,5 +37,5 @@ returns g c =
     let fl : SFits w32 c.args.last = c.ranges.last in
     let draft = map g.T.StatesId.stated c.args.fields.now in
     let p : Passed draft c.args.last c.loop-next.n = simp (to_z-of_z, c.loop-next.n-is) at c.loop-next.invariant in
-    let end : c.loop-next.n ≡ pos 2147483647 = simp c.loop-next.n-is at c.in-default.ensures in
+    let end : c.loop-next.n ≡ pos 2147483647 = simp c.loop-next.n-is at c.in_default.ensures in
     passed_all draft c.args.last c.loop-next.n p end

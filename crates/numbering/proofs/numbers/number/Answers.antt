@@ -22,8 +22,8 @@ loop-index-init g c =
     let fs : SFits w32 c.args.start = c.ranges.start in
     simp to_z-of_z (turn_first c.args.start (map g.T.StatesId.stated c.args.fields.now) c.args.ids.now)
 
-pub returns-in-default : goal.returns-in-default
-returns-in-default g c =
+pub returns-in_default : goal.returns-in_default
+returns-in_default g c =
     let fs : SFits w32 c.args.start = c.ranges.start in
     let f = g.T.StatesId.stated in
     let draft = map f c.args.fields.now in
@@ -33,7 +33,7 @@ returns-in-default g c =
     let top = c.loop-index.last in
     let x = c.index-fields-index.result in
     let t : Turned c.args.start draft old new k top = simp (to_z-of_z, c.loop-index.last-is) at c.loop-index.invariant in
-    let s : NoId top draft (f x) = simp c.loop-index.last-is at c.in-default.ensures in
+    let s : NoId top draft (f x) = simp c.loop-index.last-is at c.in_default.ensures in
     let a : Halted c.args.start draft old new k
     = turn_halts f c.args.fields.now c.args.start old new k top t x c.loop-index-test.true c.index-fields-index.is (omega arith) s in
     record { answer = a; lawful = lawful {A = Unit {0}} c.args.start draft old new (Err (NoNumber k)) a }

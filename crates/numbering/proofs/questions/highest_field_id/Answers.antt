@@ -12,9 +12,9 @@ loop-field-init g c =
     let f = g.T.TellsId.idOf in
     let fs = c.args.fields.now in
     let lt : 0 < length fs = search rules in
-    let id = c.field-id-highest.result in
+    let id = c.field_id-highest.result in
     let fits : SFits w32 id = search rules in
-    let has : Has (map f fs) id = subst (λ (n : ℤ). Has (map f fs) n) (sym c.field-id-highest.ensures) (has_at f fs 0 c.index-fields-0.result lt c.index-fields-0.is) in
+    let has : Has (map f fs) id = subst (λ (n : ℤ). Has (map f fs) n) (sym c.field_id-highest.ensures) (has_at f fs 0 c.index-fields-0.result lt c.index-fields-0.is) in
     simp to_z-of_z (highest_first (map f fs) id has)
 
 pub loop-field-preserved : goal.loop-field-preserved
@@ -25,10 +25,10 @@ loop-field-preserved g c =
     let lt : k < length fs = c.loop-field-test.true in
     let z = length-map fs f in
     let so = c.loop-field.highest in
-    let id = c.field-id.result in
+    let id = c.field_id.result in
     let fits : SFits w32 id = search rules in
     let fits-higher : SFits w32 c.higher-highest.result = search rules in
-    let is : get_or (map f fs) k (pos 0) ≡ id = told_at f fs k c.field-item.result lt c.field-item.is (pos 0) ∙ sym c.field-id.ensures in
+    let is : get_or (map f fs) k (pos 0) ≡ id = told_at f fs k c.field-item.result lt c.field-item.is (pos 0) ∙ sym c.field_id.ensures in
     let inv : HighestOf (map f fs) k so = simp c.loop-field.highest-is at c.loop-field.invariant in
     let top : c.higher-highest.result ≡ int_max so id = simp (to_z-of_z, c.loop-field.highest-is) at c.higher-highest.ensures in
     simp to_z-of_z (subst (HighestOf (map f fs) (k + 1)) (sym top) (highest_more (map f fs) k so id (omega arith) inv is))

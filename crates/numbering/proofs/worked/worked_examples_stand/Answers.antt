@@ -3,9 +3,9 @@ use Rattle.numbering.proofs.worked.worked_examples_stand.Goals as goal
 
 pub returns : goal.returns
 returns c = record {
-  later-stated = later_stated_is_passed;
-  counts-on = counts_on_from_stated;
-  nothing-after = nothing_after_the_greatest;
+  later_stated = later_stated_is_passed;
+  counts_on = counts_on_from_stated;
+  nothing_after = nothing_after_the_greatest;
   greatest = greatest_is_given;
   negatives = counts_through_negatives;
   no_fields = no_fields_no_ids;

@@ -8,5 +8,5 @@ returns c =
     let src = c.args.src.now in
     let out = c.args.out.now in
     let at = c.args.at in
-    let end : c.in-ok-end.end ≡ at + length src = search rules in
-    (omega arith, end, put_mid-paste at _ out _ src (length src) c.copy-from-slice.ensures.after (omega arith) refl ∙ paste_all out at src (length src) refl)
+    let end : c.in_ok-end.end ≡ at + length src = search rules in
+    (omega arith, end, put_mid-paste at _ out _ src (length src) c.copy_from_slice.ensures.after (omega arith) refl ∙ paste_all out at src (length src) refl)

@@ -7,10 +7,10 @@ use Rattle.records.proofs.entry.entry_len.Goals as goal
 
 pub returns : goal.returns
 returns c =
-    let name = ap length c.as-bytes.ensures.same in
-    let text = c.print-in-text-len.ensures.len in
+    let name = ap length c.as_bytes.ensures.same in
+    let text = c.print_in-text_len.ensures.len in
     record {
       len = omega (arith, length_entry (entry_of (paper_field c.args.field.now)));
-      short = omega (arith, c.as-bytes.ensures.good.short, c.print-in-text-len.ensures.short);
-      fits = record { source = c.head.ensures.source; id = c.head.ensures.id; width = c.print-in-text-len.ensures.width };
+      short = omega (arith, c.as_bytes.ensures.good.short, c.print_in-text_len.ensures.short);
+      fits = record { source = c.head.ensures.source; id = c.head.ensures.id; width = c.print_in-text_len.ensures.width };
     }

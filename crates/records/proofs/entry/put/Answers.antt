@@ -4,5 +4,5 @@ use Rattle.records.proofs.entry.put.Goals as goal
 
 pub returns : goal.returns
 returns c =
-    let p = put_laid c.args.bytes.now c.args.out.now c.put-at.new.out c.args.at c.unwrap.result c.put-at.result c.put-at.ensures c.unwrap.ensures in
+    let p = put_laid c.args.bytes.now c.args.out.now c.put_at.new.out c.args.at c.unwrap.result c.put_at.result c.put_at.ensures c.unwrap.ensures in
     record { end = p.0; after = p.1 }

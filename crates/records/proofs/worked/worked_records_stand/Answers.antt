@@ -5,4 +5,4 @@ use Rattle.records.proofs.worked.worked_records_stand.Goals as goal
 
 pub returns : goal.returns
 unfolding entry_bytes body_bytes record_bytes
-returns c = record { blank = refl; one-day = refl }
+returns c = record { blank = refl; one_day = refl }

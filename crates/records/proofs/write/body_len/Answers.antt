@@ -10,14 +10,14 @@ pub loop-index-init : goal.loop-index-init
 loop-index-init g c = measured_none (g.R.Recorded.plan c.args.plan.now).fields
 
 pub loop-index-preserved : goal.loop-index-preserved
-loop-index-preserved g c = elim c.match-entry-at.branch [
-  | in-Some w ↦ measured_more (g.R.Recorded.plan c.args.plan.now).fields c.loop-index.index c.loop-index.len w.entry-len-len.result (paper_field w.in-Some.field) (omega arith) w.in-Some.ensures
-      c.match-entry-at.len w.len-is w.entry-len-len.ensures.len w.entry-len-len.ensures.short w.entry-len-len.ensures.fits c.loop-index.invariant
-  | in-default w ↦ absurd (no_gap (g.R.Recorded.plan c.args.plan.now).fields c.loop-index.index (omega arith) w.in-default.ensures)
+loop-index-preserved g c = elim c.match-entry_at.branch [
+  | in-Some w ↦ measured_more (g.R.Recorded.plan c.args.plan.now).fields c.loop-index.index c.loop-index.len w.entry_len-len.result (paper_field w.in-Some.field) (omega arith) w.in-Some.ensures
+      c.match-entry_at.len w.len-is w.entry_len-len.ensures.len w.entry_len-len.ensures.short w.entry_len-len.ensures.fits c.loop-index.invariant
+  | in-default w ↦ absurd (no_gap (g.R.Recorded.plan c.args.plan.now).fields c.loop-index.index (omega arith) w.in_default.ensures)
 ]
 
 pub returns : goal.returns
 returns g c =
-    let few = c.entry-count-index-end.ensures.buildable.few in
+    let few = c.entry_count-index-end.ensures.buildable.few in
     let all = measured_all (g.R.Recorded.plan c.args.plan.now).fields c.loop-index.index c.loop-index.len (omega arith) c.loop-index.invariant in
-    record { len = all.0; short = omega (arith, c.loop-index.invariant.short); each = all.1; buildable = c.entry-count-index-end.ensures.buildable }
+    record { len = all.0; short = omega (arith, c.loop-index.invariant.short); each = all.1; buildable = c.entry_count-index-end.ensures.buildable }

@@ -6,10 +6,10 @@ use Rattle.texts.proofs.print.print.Goals as goal
 
 pub returns-in-Bucket : goal.returns-in-Bucket
 returns-in-Bucket c =
-    let p = put_so c.args.transform (Bucket c.in-Bucket.n) c.args.out.now c.put-width.new.out c.put-width.result c.in-Bucket.is (omega arith) c.put-width.ensures in
-    record { wrote = p.0; read_back = p.1; as-documented = documented c.args.transform }
+    let p = put_so c.args.transform (Bucket c.in-Bucket.n) c.args.out.now c.put_width.new.out c.put_width.result c.in-Bucket.is (omega arith) c.put_width.ensures in
+    record { wrote = p.0; read_back = p.1; as_documented = documented c.args.transform }
 
 pub returns-in-Truncate : goal.returns-in-Truncate
 returns-in-Truncate c =
-    let p = put_so c.args.transform (Truncate c.in-Truncate.n) c.args.out.now c.put-width-in-Truncate.new.out c.put-width-in-Truncate.result c.in-Truncate.is (omega arith) c.put-width-in-Truncate.ensures in
-    record { wrote = p.0; read_back = p.1; as-documented = documented c.args.transform }
+    let p = put_so c.args.transform (Truncate c.in-Truncate.n) c.args.out.now c.put_width-in-Truncate.new.out c.put_width-in-Truncate.result c.in-Truncate.is (omega arith) c.put_width-in-Truncate.ensures in
+    record { wrote = p.0; read_back = p.1; as_documented = documented c.args.transform }

@@ -7,8 +7,8 @@ pub returns-then-n-digit : goal.returns-then-n-digit
 returns-then-n-digit c =
     overflow_at c.args.text.now c.loop-b.b-index c.loop-b.n c.loop-b-test.true c.loop-b.invariant (omega arith, omega arith) (omega arith)
 
-pub returns-in-default : goal.returns-in-default
-returns-in-default c =
+pub returns-in_default : goal.returns-in_default
+returns-in_default c =
     non_digit_at c.args.text.now c.loop-b.b-index c.loop-b.n c.loop-b-test.true c.loop-b.invariant (λ digit. omega (arith, digit.0, digit.1))
 
 pub returns-in-default·2 : goal.returns-in-default·2

@@ -11,37 +11,37 @@ use Rattle.texts.proofs.read.loose.Goals as goal
 pub returns-in-98 : goal.returns-in-98
 returns-in-98 c =
     let text = c.args.text.now in
-    let n = c.in-ok-width.field-0 in
+    let n = c.in_ok-width.field-0 in
     let e = begun (codes "bucket") text (omega (arith, ltb-true, ltb-false)) (search arith) in
-    let r = spelt_after (codes "bucket") text _ n e c.in-ok-width.ensures in
+    let r = spelt_after (codes "bucket") text _ n e c.in_ok-width.ensures in
     record { reading = r; only = λ s. loose_only text (Ok (Bucket n)) s r }
 
 pub returns-in-116 : goal.returns-in-116
 returns-in-116 c =
     let text = c.args.text.now in
-    let n = c.in-ok-width-2.field-0 in
+    let n = c.in_ok-width-2.field-0 in
     let e = begun (codes "truncate") text (omega (arith, ltb-true, ltb-false)) (search arith) in
-    let r = spelt_after (codes "truncate") text _ n e c.in-ok-width-2.ensures in
+    let r = spelt_after (codes "truncate") text _ n e c.in_ok-width-2.ensures in
     record { reading = r; only = λ s. loose_only text (Ok (Truncate n)) s r }
 
-pub returns-in-err-width : goal.returns-in-err-width
-returns-in-err-width c =
+pub returns-in_err-width : goal.returns-in_err-width
+returns-in_err-width c =
     let text = c.args.text.now in
     let e = begun (codes "bucket") text (omega (arith, ltb-true, ltb-false)) (search arith) in
     let p = err_from_is_err_and c.from-residual.result c.from-residual.ensures.1 in
-    let r = subst (LooseReading text) (sym (p.1 ∙ ap (λ f. Err f) p.2)) (refused_after (codes "bucket") text _ (λ _ a. inl a) e c.in-err-width.field-0.0 c.in-err-width.ensures) in
+    let r = subst (LooseReading text) (sym (p.1 ∙ ap (λ f. Err f) p.2)) (refused_after (codes "bucket") text _ (λ _ a. inl a) e c.in_err-width.field-0.0 c.in_err-width.ensures) in
     record { reading = r; only = λ s. loose_only text c.from-residual.result s r }
 
-pub returns-in-err-width-2 : goal.returns-in-err-width-2
-returns-in-err-width-2 c =
+pub returns-in_err-width-2 : goal.returns-in_err-width-2
+returns-in_err-width-2 c =
     let text = c.args.text.now in
     let e = begun (codes "truncate") text (omega (arith, ltb-true, ltb-false)) (search arith) in
-    let p = err_from_is_err_and c.from-residual-in-err-width-2.result c.from-residual-in-err-width-2.ensures.1 in
-    let r = subst (LooseReading text) (sym (p.1 ∙ ap (λ f. Err f) p.2)) (refused_after (codes "truncate") text _ (λ _ a. inr a) e c.in-err-width-2.field-0.0 c.in-err-width-2.ensures) in
-    record { reading = r; only = λ s. loose_only text c.from-residual-in-err-width-2.result s r }
+    let p = err_from_is_err_and c.from-residual-in_err-width-2.result c.from-residual-in_err-width-2.ensures.1 in
+    let r = subst (LooseReading text) (sym (p.1 ∙ ap (λ f. Err f) p.2)) (refused_after (codes "truncate") text _ (λ _ a. inr a) e c.in_err-width-2.field-0.0 c.in_err-width-2.ensures) in
+    record { reading = r; only = λ s. loose_only text c.from-residual-in_err-width-2.result s r }
 
 pub returns : goal.returns
 returns c =
     let text = c.args.text.now in
-    let r = subst (LooseReading text) (sym c.ok-or.ensures.value) (fixed_or_unknown text c.fixed.result c.fixed.ensures (search rules) (search rules)) in
-    record { reading = r; only = λ s. loose_only text c.ok-or.result s r }
+    let r = subst (LooseReading text) (sym c.ok_or.ensures.value) (fixed_or_unknown text c.fixed.result c.fixed.ensures (search rules) (search rules)) in
+    record { reading = r; only = λ s. loose_only text c.ok_or.result s r }

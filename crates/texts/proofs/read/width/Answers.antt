@@ -9,25 +9,25 @@ use Rattle.texts.proofs.read.width.Goals as goal
 
 pub returns-in-empty : goal.returns-in-empty
 returns-in-empty c =
-    width_so (Err WidthMissing) c.past-open.ensures c.before-close-bare.ensures
-    (nil_from_length c.before-close-bare.result.now (omega (arith, ltb-true, ltb-false)))
+    width_so (Err WidthMissing) c.past_open.ensures c.before_close-bare.ensures
+    (nil_from_length c.before_close-bare.result.now (omega (arith, ltb-true, ltb-false)))
 
 pub returns-in-empty-default : goal.returns-in-empty-default
 returns-in-empty-default c =
-    let bare = c.before-close-bare.result.now in
-    width_so (Err WidthNonDigit) c.past-open.ensures c.before-close-bare.ensures
+    let bare = c.before_close-bare.result.now in
+    width_so (Err WidthNonDigit) c.past_open.ensures c.before_close-bare.ensures
     (inl (lone_plus bare (omega arith) (omega (arith, ltb-true, ltb-false, length-drop 1 bare, length-take (length bare - 1) (drop 1 bare)))))
 
-pub returns-in-default-default : goal.returns-in-default-default
-returns-in-default-default c =
-    let bare = c.before-close-bare.result.now in
-    width_so c.digits.result c.past-open.ensures c.before-close-bare.ensures
+pub returns-in_default-default : goal.returns-in_default-default
+returns-in_default-default c =
+    let bare = c.before_close-bare.result.now in
+    width_so c.digits.result c.past_open.ensures c.before_close-bare.ensures
     (read_after_plus bare (drop 1 bare) (without_leading_plus_plus bare (omega arith))
     (omega (arith, ltb-true, ltb-false, length-drop 1 bare, length-take (length bare - 1) (drop 1 bare)))
     c.digits.result (subst (λ l. DigitsReading l c.digits.result) (take_rest bare 1) c.digits.ensures))
 
-pub returns-in-default : goal.returns-in-default
-returns-in-default c =
-    let bare = c.before-close-bare.result.now in
-    width_so c.digits-in-default.result c.past-open.ensures c.before-close-bare.ensures
-    (read_after_plus bare bare (without_leading_plus_none bare (λ q. omega arith)) (omega (arith, ltb-true, ltb-false)) c.digits-in-default.result c.digits-in-default.ensures)
+pub returns-in_default : goal.returns-in_default
+returns-in_default c =
+    let bare = c.before_close-bare.result.now in
+    width_so c.digits-in_default.result c.past_open.ensures c.before_close-bare.ensures
+    (read_after_plus bare bare (without_leading_plus_none bare (λ q. omega arith)) (omega (arith, ltb-true, ltb-false)) c.digits-in_default.result c.digits-in_default.ensures)

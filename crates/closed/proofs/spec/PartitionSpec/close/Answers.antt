@@ -16,19 +16,19 @@ use Rattle.closed.proofs.spec.PartitionSpec.close.Goals.{After-fill}
 pub returns-in-Err : goal.returns-in-Err
 returns-in-Err c =
     let start = c.args.start in
-    let fs = c.as-slice-fields.result.now in
+    let fs = c.as_slice-fields.result.now in
     let draft = listed c.args.fields.now in
     let fits : SFits w32 c.args.start = c.ranges.start in
-    let id : SFits w32 c.args.spec-id = c.ranges.spec-id in
-    let few = few_fields fs c.as-slice-fields.ensures.buildable in
+    let id : SFits w32 c.args.spec_id = c.ranges.spec_id in
+    let few = few_fields fs c.as_slice-fields.ensures.buildable in
     let size = length-replicate 64 (pos 0) in
-    let refused : Refused start (states start fs draft c.as-slice-fields.ensures.same) (replicate 64 (pos 0)) c.number.new.ids c.in-Err.field-0 = simp to_z-of_z at c.in-Err.ensures.answer in
-    let s = stuck_draft start fs draft c.as-slice-fields.ensures.same (replicate 64 (pos 0)) c.number.new.ids c.in-Err.field-0 (omega arith) refused in
+    let refused : Refused start (states start fs draft c.as_slice-fields.ensures.same) (replicate 64 (pos 0)) c.number.new.ids c.in-Err.field-0 = simp to_z-of_z at c.in-Err.ensures.answer in
+    let s = stuck_draft start fs draft c.as_slice-fields.ensures.same (replicate 64 (pos 0)) c.number.new.ids c.in-Err.field-0 (omega arith) refused in
     record { answer = (refl, s, refl); laws = laws_stuck start draft (paper_closed c.args.self.now).fields (closed_ids c.args.self.now) s }
 
 pub fill-requires : goal.fill-requires
 fill-requires c =
-    let few = few_fields c.as-slice-fields.result.now c.as-slice-fields.ensures.buildable in
+    let few = few_fields c.as_slice-fields.result.now c.as_slice-fields.ensures.buildable in
     let room = c.args.self.now.room in
     record { few = few; room = room; enough = omega arith }
 
@@ -37,26 +37,26 @@ module _ (c : After-fill) where
   filled : ClosedAs c.args.start (listed c.args.fields.now) (openeds (vec_items c.fill.new.closed)) (ids_of (vec_items c.fill.new.closed))
   filled =
       let start = c.args.start in
-      let fs = c.as-slice-fields.result.now in
+      let fs = c.as_slice-fields.result.now in
       let draft = listed c.args.fields.now in
       let fits : SFits w32 c.args.start = c.ranges.start in
-      let id : SFits w32 c.args.spec-id = c.ranges.spec-id in
-      let numbers : Numbering start (states start fs draft c.as-slice-fields.ensures.same) (take (length (states start fs draft c.as-slice-fields.ensures.same)) c.number.new.ids)
-      = simp to_z-of_z at c.in-default.ensures.answer.numbering in
-      closed_as start fs draft c.as-slice-fields.ensures.same (vec_items c.fill.new.closed) c.number.new.ids numbers c.fill.ensures.rest c.fill.ensures.ids
+      let id : SFits w32 c.args.spec_id = c.ranges.spec_id in
+      let numbers : Numbering start (states start fs draft c.as_slice-fields.ensures.same) (take (length (states start fs draft c.as_slice-fields.ensures.same)) c.number.new.ids)
+      = simp to_z-of_z at c.in_default.ensures.answer.numbering in
+      closed_as start fs draft c.as_slice-fields.ensures.same (vec_items c.fill.new.closed) c.number.new.ids numbers c.fill.ensures.rest c.fill.ensures.ids
 
-pub invariant-of-self : goal.invariant-of-self
-invariant-of-self c =
+pub invariant_of-self : goal.invariant_of-self
+invariant_of-self c =
     let draft = listed c.args.fields.now in
-    let few = few_fields c.as-slice-fields.result.now c.as-slice-fields.ensures.buildable in
+    let few = few_fields c.as_slice-fields.result.now c.as_slice-fields.ensures.buildable in
     let k = keeps_closed c.args.start draft (openeds (vec_items c.fill.new.closed)) (ids_of (vec_items c.fill.new.closed)) (buildable_listed c.args.fields.now) (filled c) in
     (omega (arith, c.fill.ensures.len), (c.fill.ensures.cap, (k.names, (k.sources, (k.ids, tt)))))
 
 pub returns : goal.returns
 returns c =
-    let fits : SFits w32 c.args.spec-id = c.ranges.spec-id in
+    let fits : SFits w32 c.args.spec_id = c.ranges.spec_id in
     let closed = filled (goal.at.returns c).After-fill in
     record {
-      answer = (ap Some (to_z-of_z w32 c.args.spec-id fits), closed);
+      answer = (ap Some (to_z-of_z w32 c.args.spec_id fits), closed);
       laws = laws_closed c.args.start (listed c.args.fields.now) (openeds (vec_items c.fill.new.closed)) (ids_of (vec_items c.fill.new.closed)) tt closed;
     }

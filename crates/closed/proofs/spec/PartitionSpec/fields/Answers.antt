@@ -10,12 +10,12 @@ use Rattle.closed.proofs.spec.PartitionSpec.fields.Goals as goal
 
 pub returns : goal.returns
 returns c =
-    let e = c.as-slice.ensures.value in
+    let e = c.as_slice.ensures.value in
     let s = c.args.self.now in
     record {
       same = ap openeds e;
       ids = ap ids_of e;
-      state = opened_state c.as-slice.result.now;
+      state = opened_state c.as_slice.result.now;
       distinct = subst (λ (fs : List PartitionField). Distinct (ids_of fs)) (sym e) (distinct_closed s);
       buildable = subst (λ (fs : List PartitionField). Buildable (openeds fs)) (sym e) (buildable_closed s);
     }

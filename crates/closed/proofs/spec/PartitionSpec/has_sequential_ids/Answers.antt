@@ -4,4 +4,4 @@ use Rattle.numbering.specs.Ids.{Sequential}
 use Rattle.closed.proofs.spec.PartitionSpec.has_sequential_ids.Goals as goal
 
 pub returns : goal.returns
-returns c = subst (λ (ids : List ℤ). Decides c.has-sequential-ids.result (Sequential ids)) c.fields.ensures.ids c.has-sequential-ids.ensures
+returns c = subst (λ (ids : List ℤ). Decides c.has_sequential_ids.result (Sequential ids)) c.fields.ensures.ids c.has_sequential_ids.ensures

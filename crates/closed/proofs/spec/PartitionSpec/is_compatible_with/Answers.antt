@@ -16,15 +16,15 @@ returns-then-fields-others c = (
       absurd (omega arith),
 )
 
-pub returns-then-not-is-compatible-with : goal.returns-then-not-is-compatible-with
-returns-then-not-is-compatible-with c = (
+pub returns-then-not-is_compatible_with : goal.returns-then-not-is_compatible_with
+returns-then-not-is_compatible_with c = (
   λ e. absurd (false≢true e),
   λ e.
       let xs = c.fields-fields.result.now in
       let ys = c.fields-others.result.now in
       let within : c.loop-place.place < length ys = omega arith in
       absurd (views_other rest xs ys c.loop-place.place c.index-fields-place.result c.index-others-place.result c.loop-place-test.true within c.index-fields-place.is c.index-others-place.is
-      (not_from_Decides false c.if-not-is-compatible-with.ensures refl)
+      (not_from_Decides false c.if-not-is_compatible_with.ensures refl)
       (compatible_rests xs ys (paper_closed c.args.self.now).fields (paper_closed c.args.other.now).fields c.fields-fields.ensures.same c.fields-others.ensures.same e)),
 )
 
@@ -34,7 +34,7 @@ loop-place-preserved c =
     let ys = c.fields-others.result.now in
     let within : c.loop-place.place < length ys = omega arith in
     views_more rest xs ys c.loop-place.place c.index-fields-place.result c.index-others-place.result c.loop-place-test.true within c.index-fields-place.is c.index-others-place.is
-    c.loop-place.invariant (c.if-not-is-compatible-with.ensures.0 refl)
+    c.loop-place.invariant (c.if-not-is_compatible_with.ensures.0 refl)
 
 pub returns : goal.returns
 returns c =

@@ -12,18 +12,18 @@ use Rattle.closed.proofs.spec.PartitionSpec.is_unpartitioned.Goals as goal
 pub loop-field-init : goal.loop-field-init
 loop-field-init c = tt
 
-pub returns-then-not-is-void : goal.returns-then-not-is-void
-returns-then-not-is-void c = (
+pub returns-then-not-is_void : goal.returns-then-not-is_void
+returns-then-not-is_void c = (
   λ e. absurd (false≢true e),
   λ all.
       absurd (void_not c.fields-field-items.result.now (paper_closed c.args.self.now).fields c.fields-field-items.ensures.same c.loop-field.field-index c.field-item.result c.loop-field-test.true c.field-item.is
-      (not_from_Decides false c.if-not-is-void.ensures refl) all),
+      (not_from_Decides false c.if-not-is_void.ensures refl) all),
 )
 
 pub loop-field-preserved : goal.loop-field-preserved
 loop-field-preserved c =
     All-more (λ (f : PartitionField). f.transform ≡ Void) c.fields-field-items.result.now c.loop-field.field-index c.field-item.result c.loop-field-test.true c.loop-field.invariant
-    (subst (λ (f : PartitionField). f.transform ≡ Void) c.field-item.is (c.if-not-is-void.ensures.0 refl))
+    (subst (λ (f : PartitionField). f.transform ≡ Void) c.field-item.is (c.if-not-is_void.ensures.0 refl))
 
 pub returns : goal.returns
 returns c = (λ _. void_all c.fields-field-items.result.now (paper_closed c.args.self.now).fields c.fields-field-items.ensures.same c.loop-field.field-index c.loop-field-test.false c.loop-field.invariant, λ _. refl)

@@ -9,16 +9,16 @@ use Rattle.closed.proofs.spec.PartitionSpec.partition_type.Goals as goal
 pub returns-then-into-fields : goal.returns-then-into-fields
 returns-then-into-fields g c = types_short (g.S.Schema.columns c.args.schema.now) c.fields-fields.result.now (paper_closed c.args.self.now).fields c.fields-fields.ensures.same c.args.into.now c.if-into-fields.true
 
-pub returns-in-err-check-types : goal.returns-in-err-check-types
-returns-in-err-check-types g c =
+pub returns-in_err-check_types : goal.returns-in_err-check_types
+returns-in_err-check_types g c =
     let columns = g.S.Schema.columns c.args.schema.now in
     let fields = (paper_closed c.args.self.now).fields in
-    let fault = c.in-err-check-types.field-0.0 in
+    let fault = c.in_err-check_types.field-0.0 in
     let p = err_from_is_err_and c.from-residual.result c.from-residual.ensures.1 in
-    let b = types_broken columns c.fields-fields.result.now fields c.fields-fields.ensures.same c.args.into.now c.if-into-fields.false fault c.in-err-check-types.ensures in
+    let b = types_broken columns c.fields-fields.result.now fields c.fields-fields.ensures.same c.args.into.now c.if-into-fields.false fault c.in_err-check_types.ensures in
     subst (Types columns fields c.args.into.now c.args.into.now) (sym (p.1 ∙ ap Err p.2)) b
 
 pub returns : goal.returns
 returns g c =
-    types_all (g.S.Schema.columns c.args.schema.now) c.fields-fields.result.now (paper_closed c.args.self.now).fields c.fields-fields.ensures.same c.args.into.now c.if-into-fields.false c.write-types.new.into
-    c.in-ok-check-types.ensures c.write-types.ensures
+    types_all (g.S.Schema.columns c.args.schema.now) c.fields-fields.result.now (paper_closed c.args.self.now).fields c.fields-fields.ensures.same c.args.into.now c.if-into-fields.false c.write_types.new.into
+    c.in_ok-check_types.ensures c.write_types.ensures

@@ -19,11 +19,11 @@ loop-field-preserved c =
     let source : SFits w32 f.source_id = search rules in
     let id : SFits w32 f.field_id = search rules in
     let before = (paper_spec c.loop-field.unbound).fields in
-    let after = (paper_spec c.add-partition-field.new.self).fields in
-    let passed : Adds before (field_of f.source_id (Some f.field_id) c.as-bytes.result.now f.transform) c.add-partition-field.result after = simp to_z-of_z at c.add-partition-field.ensures.fields in
-    let adds = subst (λ (name : List ℕ). Adds before (field_of f.source_id (Some f.field_id) name f.transform) c.add-partition-field.result after) c.as-bytes.ensures.same passed in (
-      c.add-partition-field.ensures.spec-id ∙ c.loop-field.invariant.0,
-      added_next (openeds fs) i (opened f) (omega arith) c.fields-fields.ensures.buildable (opened_at fs i f c.loop-field-test.true c.field-item.is) c.add-partition-field.result before after c.loop-field.invariant.1 adds,
+    let after = (paper_spec c.add_partition_field.new.self).fields in
+    let passed : Adds before (field_of f.source_id (Some f.field_id) c.as_bytes.result.now f.transform) c.add_partition_field.result after = simp to_z-of_z at c.add_partition_field.ensures.fields in
+    let adds = subst (λ (name : List ℕ). Adds before (field_of f.source_id (Some f.field_id) name f.transform) c.add_partition_field.result after) c.as_bytes.ensures.same passed in (
+      c.add_partition_field.ensures.spec_id ∙ c.loop-field.invariant.0,
+      added_next (openeds fs) i (opened f) (omega arith) c.fields-fields.ensures.buildable (opened_at fs i f c.loop-field-test.true c.field-item.is) c.add_partition_field.result before after c.loop-field.invariant.1 adds,
     )
 
 pub returns : goal.returns

@@ -21,10 +21,10 @@ loop-i-preserved c =
     let id : SFits w32 (get_or ids i (pos 0)) = search rules in
     let old = vec_items c.loop-i.closed in
     let x : PartitionField = record { source_id = f.source_id; field_id = get_or ids i (pos 0); name = f.name; transform = f.transform } in
-    let new : vec_items c.push-reserved.new.self ≡ old ++ x ∷ [] = simp to_z-of_z at c.push-reserved.ensures.items in (
-      omega (arith, c.push-reserved.ensures.len),
-      omega (arith, c.push-reserved.ensures.capacity),
-      filled_more fs i f c.loop-i-test.true c.index-fields-i.is old (vec_items c.push-reserved.new.self) x new refl c.loop-i.invariant.2,
+    let new : vec_items c.push_reserved.new.self ≡ old ++ x ∷ [] = simp to_z-of_z at c.push_reserved.ensures.items in (
+      omega (arith, c.push_reserved.ensures.len),
+      omega (arith, c.push_reserved.ensures.capacity),
+      filled_more fs i f c.loop-i-test.true c.index-fields-i.is old (vec_items c.push_reserved.new.self) x new refl c.loop-i.invariant.2,
       ap ids_of new ∙ map_push (λ (y : PartitionField). y.field_id) old x ∙ ap (λ (l : List ℤ). l ++ get_or ids i (pos 0) ∷ []) c.loop-i.invariant.3 ∙ sym (take_more ids i (pos 0) inside),
     )
 

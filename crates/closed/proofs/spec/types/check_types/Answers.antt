@@ -12,17 +12,17 @@ use Rattle.closed.proofs.spec.types.check_types.Goals as goal
 pub loop-field-init : goal.loop-field-init
 loop-field-init g c = kept_none (g.S.Schema.columns c.args.schema.now) (openeds c.args.fields.now)
 
-pub returns-in-err-type-of : goal.returns-in-err-type-of
-returns-in-err-type-of g c =
+pub returns-in_err-type_of : goal.returns-in_err-type_of
+returns-in_err-type_of g c =
     let columns = g.S.Schema.columns c.args.schema.now in
     let fs = c.args.fields.now in
     let i = c.loop-field.field-index in
     let f = c.field-item.result in
     let size = length-map fs opened in
     let inside : i < length (openeds fs) = omega arith in
-    let fault = c.in-err-type-of.field-0.0 in
-    let p = err_from_is_err_and {Q = λ e. e ≡ c.in-err-type-of.field-0.0} c.from-residual.result c.from-residual.ensures.1 in
-    let b = broken_here columns (openeds fs) i (opened f) inside (opened_at fs i f c.loop-field-test.true c.field-item.is) (told fault) c.loop-field.invariant c.in-err-type-of.ensures in
+    let fault = c.in_err-type_of.field-0.0 in
+    let p = err_from_is_err_and {Q = λ e. e ≡ c.in_err-type_of.field-0.0} c.from-residual.result c.from-residual.ensures.1 in
+    let b = broken_here columns (openeds fs) i (opened f) inside (opened_at fs i f c.loop-field-test.true c.field-item.is) (told fault) c.loop-field.invariant c.in_err-type_of.ensures in
     refused_by (KeptBefore columns (openeds fs) (length fs)) (each_rules columns (openeds fs)) c.from-residual.result p.0 fault p.1 p.2 b
 
 pub loop-field-preserved : goal.loop-field-preserved
@@ -32,7 +32,7 @@ loop-field-preserved g c =
     let f = c.field-item.result in
     let size = length-map fs opened in
     let inside : i < length (openeds fs) = omega arith in
-    kept_more (g.S.Schema.columns c.args.schema.now) (openeds fs) i (opened f) inside (opened_at fs i f c.loop-field-test.true c.field-item.is) c.in-ok-type-of.field-0 c.in-ok-type-of.ensures c.loop-field.invariant
+    kept_more (g.S.Schema.columns c.args.schema.now) (openeds fs) i (opened f) inside (opened_at fs i f c.loop-field-test.true c.field-item.is) c.in_ok-type_of.field-0 c.in_ok-type_of.ensures c.loop-field.invariant
 
 pub returns : goal.returns
 returns g c = λ k d l. c.loop-field.invariant k d (omega arith)

@@ -27,16 +27,16 @@ loop-place-preserved g c =
     let inside : i < length (openeds fs) = omega arith in
     let room : i < length c.loop-place.into = omega arith in
     let at = opened_at fs i f c.loop-place-test.true c.index-fields-place.is in
-    elim c.match-type-of.branch [
+    elim c.match-type_of.branch [
       | in-Ok w ↦
           let id : SFits w32 f.field_id = search rules in
-          let x : TypeField = record { field_id = f.field_id; result_type = w.in-Ok.result-type; place = i } in
-          let is : c.match-type-of.into ≡ set c.loop-place.into i x = simp to_z-of_z at w.into-is in
+          let x : TypeField = record { field_id = f.field_id; result_type = w.in-Ok.result_type; place = i } in
+          let is : c.match-type_of.into ≡ set c.loop-place.into i x = simp to_z-of_z at w.into-is in
           subst (Typed columns (openeds fs) (i + 1) c.args.into.now) (sym is)
           (typed_more columns (openeds fs) i (opened f) inside at c.args.into.now c.loop-place.into x room (record { id = refl; result = w.in-Ok.ensures; ordinal = refl }) c.loop-place.invariant)
       | in-default w ↦
           let kept : AllKept (field_rules columns (opened f)) = subst (λ (p : PaperField). AllKept (field_rules columns p)) (sym at) (c.requires.kept i (opened f) c.loop-place-test.true) in
-          absurd (not_both (told w.in-default.field-0) (field_rules columns (opened f)) kept w.in-default.ensures)
+          absurd (not_both (told w.in_default.field-0) (field_rules columns (opened f)) kept w.in_default.ensures)
     ]
 
 pub returns : goal.returns

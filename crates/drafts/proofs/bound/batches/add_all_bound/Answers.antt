@@ -11,12 +11,12 @@ loop-index-init g c = none_added (bound_rules (g.S.Schema.columns c.args.schema.
 pub returns-in-Err : goal.returns-in-Err
 returns-in-Err g c =
     put_back (bound_rules (g.S.Schema.columns c.args.schema.now)) (listed c.args.fields.now) c.args.area.now c.args.batch.now c.loop-index.index (listed c.loop-index.fields) c.loop-index.invariant c.loop-index-test.true
-    c.in-Err.cause (listed c.add-entry.new.fields) (listed c.truncate.new.self) c.field-count-count.result c.in-Err.ensures c.field-count-count.ensures c.truncate.ensures
+    c.in-Err.cause (listed c.add_entry.new.fields) (listed c.truncate.new.self) c.field_count-count.result c.in-Err.ensures c.field_count-count.ensures c.truncate.ensures
 
 pub loop-index-preserved : goal.loop-index-preserved
 loop-index-preserved g c =
     next_added (bound_rules (g.S.Schema.columns c.args.schema.now)) (listed c.args.fields.now) c.args.area.now c.args.batch.now c.loop-index.index (listed c.loop-index.fields) c.loop-index.invariant c.loop-index-test.true
-    (listed c.add-entry.new.fields) c.in-default.ensures
+    (listed c.add_entry.new.fields) c.in_default.ensures
 
 pub returns : goal.returns
 returns g c =

@@ -15,9 +15,9 @@ returns-in-Ok g c =
     let b = c.args.field.now in
     let fits : SFits w32 c.args.field.now.source_id = search rules in
     let is = placed_entry c.args.area.now c.in-Some.name.now b c.in-Some.ensures in
-    let a : AddsBound columns (listed c.args.fields.now) (field_of c.args.field.now.source_id c.args.field.now.field_id c.in-Some.name.now c.args.field.now.transform) (Ok tt) (listed c.add-bound.new.fields)
+    let a : AddsBound columns (listed c.args.fields.now) (field_of c.args.field.now.source_id c.args.field.now.field_id c.in-Some.name.now c.args.field.now.transform) (Ok tt) (listed c.add_bound.new.fields)
     = simp to_z-of_z at c.in-Ok.ensures in
-    entry_add columns (listed c.args.fields.now) (entry c.args.area.now b) _ is (listed c.add-bound.new.fields) a
+    entry_add columns (listed c.args.fields.now) (entry c.args.area.now b) _ is (listed c.add_bound.new.fields) a
 
 pub returns-in-Err : goal.returns-in-Err
 returns-in-Err g c =
@@ -25,6 +25,6 @@ returns-in-Err g c =
     let b = c.args.field.now in
     let fits : SFits w32 c.args.field.now.source_id = search rules in
     let is = placed_entry c.args.area.now c.in-Some.name.now b c.in-Some.ensures in
-    let a : AddsBound columns (listed c.args.fields.now) (field_of c.args.field.now.source_id c.args.field.now.field_id c.in-Some.name.now c.args.field.now.transform) (Err c.in-Err.fault) (listed c.add-bound.new.fields)
+    let a : AddsBound columns (listed c.args.fields.now) (field_of c.args.field.now.source_id c.args.field.now.field_id c.in-Some.name.now c.args.field.now.transform) (Err c.in-Err.fault) (listed c.add_bound.new.fields)
     = simp to_z-of_z at c.in-Err.ensures in
-    entry_refused columns (listed c.args.fields.now) (entry c.args.area.now b) _ is c.in-Err.fault (listed c.add-bound.new.fields) a
+    entry_refused columns (listed c.args.fields.now) (entry c.args.area.now b) _ is c.in-Err.fault (listed c.add_bound.new.fields) a

@@ -14,7 +14,7 @@ returns-in-Err g c =
 pub loop-index-preserved : goal.loop-index-preserved
 loop-index-preserved g c =
     one_more (g.S.Schema.columns c.args.schema.now) c.args.fields.now c.loop-index.index c.index-fields-index.result c.loop-index-test.true c.index-fields-index.is c.loop-index.invariant
-    (seen c.view.result) c.view.ensures c.in-default.ensures
+    (seen c.view.result) c.view.ensures c.in_default.ensures
 
 pub returns : goal.returns
 returns g c = all_admitted (g.S.Schema.columns c.args.schema.now) c.args.fields.now c.loop-index.index c.loop-index-test.false c.loop-index.invariant

@@ -14,8 +14,8 @@ use Rattle.drafts.proofs.builder.PartitionSpecBuilder.add_unbound_field.Goals as
 pub returns : goal.returns
 returns g c =
     let columns = g.S.Schema.columns c.args.schema.now in
-    let fits : SFits w32 c.args.source-id = c.ranges.source-id in
+    let fits : SFits w32 c.args.source_id = c.ranges.source_id in
     let p = paper c.args.self.now in
-    let f = field_of c.args.source-id c.args.field-id c.args.name.now c.args.transform in
-    let a : AddsBound columns p.fields (field_of c.args.source-id c.args.field-id c.args.name.now c.args.transform) c.add-bound.result (listed c.add-bound.new.fields) = simp to_z-of_z at c.add-bound.ensures in
-    stepped p _ (Call.addField columns f) (answer_of c.add-bound.result) (changes p (listed c.add-bound.new.fields) (bound_rules columns p.fields f) (p.fields ++ f ∷ []) c.add-bound.result a)
+    let f = field_of c.args.source_id c.args.field_id c.args.name.now c.args.transform in
+    let a : AddsBound columns p.fields (field_of c.args.source_id c.args.field_id c.args.name.now c.args.transform) c.add_bound.result (listed c.add_bound.new.fields) = simp to_z-of_z at c.add_bound.ensures in
+    stepped p _ (Call.addField columns f) (answer_of c.add_bound.result) (changes p (listed c.add_bound.new.fields) (bound_rules columns p.fields f) (p.fields ++ f ∷ []) c.add_bound.result a)

@@ -4,4 +4,4 @@ use Rattle.drafts.proofs.Reached.{admitted_on_every}
 use Rattle.drafts.proofs.builder.PartitionSpecBuilder.fields.Goals as goal
 
 pub returns : goal.returns
-returns c = record { same = c.as-slice.ensures.same; buildable = c.as-slice.ensures.buildable; fit = admitted_on_every (paper c.args.self.now) }
+returns c = record { same = c.as_slice.ensures.same; buildable = c.as_slice.ensures.buildable; fit = admitted_on_every (paper c.args.self.now) }

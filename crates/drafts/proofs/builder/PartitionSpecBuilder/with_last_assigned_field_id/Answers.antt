@@ -9,6 +9,6 @@ use Rattle.drafts.proofs.builder.PartitionSpecBuilder.with_last_assigned_field_i
 
 pub returns : goal.returns
 returns c =
-    let fits : SFits w32 c.args.last-assigned-field-id = c.ranges.last-assigned-field-id in
+    let fits : SFits w32 c.args.last_assigned_field_id = c.ranges.last_assigned_field_id in
     let p = paper c.args.self.now in
-    stepped p _ (Call.setStart c.args.last-assigned-field-id) None (tt, λ i. with_start (to_z-of_z w32 c.args.last-assigned-field-id fits i) p)
+    stepped p _ (Call.setStart c.args.last_assigned_field_id) None (tt, λ i. with_start (to_z-of_z w32 c.args.last_assigned_field_id fits i) p)

@@ -9,6 +9,6 @@ use Rattle.drafts.proofs.builder.PartitionSpecBuilder.with_spec_id.Goals as goal
 
 pub returns : goal.returns
 returns c =
-    let fits : SFits w32 c.args.spec-id = c.ranges.spec-id in
+    let fits : SFits w32 c.args.spec_id = c.ranges.spec_id in
     let p = paper c.args.self.now in
-    stepped p _ (Call.setSpecId c.args.spec-id) None (tt, λ i. with_spec_id (to_z-of_z w32 c.args.spec-id fits i) p)
+    stepped p _ (Call.setSpecId c.args.spec_id) None (tt, λ i. with_spec_id (to_z-of_z w32 c.args.spec_id fits i) p)

@@ -7,7 +7,7 @@ use Rattle.names.proofs.utf8.Machine.step.Goals.{in-Start-Ascii, in-Start-Lead2,
 
 pub returns : goal.returns
 returns c =
-    let m : c.match-self.self ≡ move c.args.self.now.state c.class-of-class.result =
+    let m : c.match-self.self ≡ move c.args.self.now.state c.class_of-class.result =
     elim c.match-self.branch [
       | in-Start-Ascii w ↦ search rules
       | in-Start-Lead2 w ↦ search rules
@@ -34,5 +34,5 @@ returns c =
       | in-default·8 w ↦ search rules
       | in-default·9 w ↦ search rules
     ] in
-    ap due m ∙ ap (λ k. due (move c.args.self.now.state k)) c.class-of-class.ensures
+    ap due m ∙ ap (λ k. due (move c.args.self.now.state k)) c.class_of-class.ensures
     ∙ moved c.args.self.now.state c.args.byte (omega arith)

@@ -8,5 +8,5 @@ use Rattle.partitions.proofs.fields.FieldList.as_slice.Goals as goal
 
 pub returns : goal.returns
 returns c =
-    let e = ap papers c.as-slice.ensures.value in
+    let e = ap papers c.as_slice.ensures.value in
     record { same = e; buildable = subst Buildable (sym e) (buildable_listed c.args.self.now); law = buildable_exactly }

@@ -6,8 +6,8 @@ use Rattle.partitions.proofs.Builds.{buildable_take}
 use Rattle.partitions.proofs.Kept.{buildable_listed, papers_take}
 use Rattle.partitions.proofs.fields.FieldList.truncate.Goals as goal
 
-pub invariant-of-self : goal.invariant-of-self
-invariant-of-self c =
+pub invariant_of-self : goal.invariant_of-self
+invariant_of-self c =
     let few = c.args.self.now.few in
     let room = c.args.self.now.room in
     let e = papers_take c.args.count (vec_items c.args.self.now.fields) (vec_items c.truncate.new.self) c.truncate.ensures.items in

@@ -9,16 +9,16 @@ use Rattle.partitions.proofs.Finding.{found, passed, no_gap}
 use Rattle.partitions.proofs.validator.CorePartitionSpecValidator.alike_used.Goals as goal
 use Rattle.partitions.proofs.validator.CorePartitionSpecValidator.alike_used.Goals.{in-Some+else-is-alike, in-default}
 
-pub returns-then-is-alike : goal.returns-then-is-alike
-returns-then-is-alike g c =
-    let fits : SFits w32 c.args.source-id = c.ranges.source-id in
-    let before : NoneBefore (AlikeOn c.args.source-id c.args.transform) (g.Self.CorePartitionSpecValidator.held c.args.self.now) c.loop-index.index
+pub returns-then-is_alike : goal.returns-then-is_alike
+returns-then-is_alike g c =
+    let fits : SFits w32 c.args.source_id = c.ranges.source_id in
+    let before : NoneBefore (AlikeOn c.args.source_id c.args.transform) (g.Self.CorePartitionSpecValidator.held c.args.self.now) c.loop-index.index
     = simp to_z-of_z at c.loop-index.invariant in
-    let here : AlikeOn c.args.source-id c.args.transform (seen c.in-Some.field) = simp to_z-of_z at (c.if-is-alike.ensures.0 refl) in
-    found (AlikeOn c.args.source-id c.args.transform) (g.Self.CorePartitionSpecValidator.held c.args.self.now) c.loop-index.index (seen c.in-Some.field) c.in-Some.ensures before here
+    let here : AlikeOn c.args.source_id c.args.transform (seen c.in-Some.field) = simp to_z-of_z at (c.if-is_alike.ensures.0 refl) in
+    found (AlikeOn c.args.source_id c.args.transform) (g.Self.CorePartitionSpecValidator.held c.args.self.now) c.loop-index.index (seen c.in-Some.field) c.in-Some.ensures before here
 
 pub loop-index-preserved : goal.loop-index-preserved
-loop-index-preserved g c = elim c.match-field-at.branch [
-  | in-Some+else-is-alike w ↦ passed (AlikeOn (to_z w32 (of_z w32 c.args.source-id)) c.args.transform) (g.Self.CorePartitionSpecValidator.held c.args.self.now) c.loop-index.index _ w.in-Some.ensures c.loop-index.invariant (λ p. false≢true (w.if-is-alike.ensures.1 p))
-  | in-default w ↦ absurd (no_gap (g.Self.CorePartitionSpecValidator.held c.args.self.now) c.loop-index.index (omega arith) w.in-default.ensures)
+loop-index-preserved g c = elim c.match-field_at.branch [
+  | in-Some+else-is-alike w ↦ passed (AlikeOn (to_z w32 (of_z w32 c.args.source_id)) c.args.transform) (g.Self.CorePartitionSpecValidator.held c.args.self.now) c.loop-index.index _ w.in-Some.ensures c.loop-index.invariant (λ p. false≢true (w.if-is_alike.ensures.1 p))
+  | in-default w ↦ absurd (no_gap (g.Self.CorePartitionSpecValidator.held c.args.self.now) c.loop-index.index (omega arith) w.in_default.ensures)
 ]

@@ -7,15 +7,15 @@ use Rattle.partitions.specs.Views.{seen}
 use Rattle.partitions.proofs.Judging.{alike_first, neither_used}
 use Rattle.partitions.proofs.validator.CorePartitionSpecValidator.check_used.Goals as goal
 
-pub returns-in-Some-alike-used : goal.returns-in-Some-alike-used
-returns-in-Some-alike-used g c =
+pub returns-in-Some-alike_used : goal.returns-in-Some-alike_used
+returns-in-Some-alike_used g c =
     let fits : SFits w32 c.args.field.now.source_id = search rules in
-    let first : FirstAt (AlikeOn c.args.field.now.source_id c.args.field.now.transform) (g.Self.CorePartitionSpecValidator.held c.args.self.now) c.in-Some-alike-used.index
-    = simp to_z-of_z at c.in-Some-alike-used.ensures in
-    alike_first (g.Self.CorePartitionSpecValidator.held c.args.self.now) (seen c.args.field.now) c.in-Some-alike-used.index c.in-default.ensures first
+    let first : FirstAt (AlikeOn c.args.field.now.source_id c.args.field.now.transform) (g.Self.CorePartitionSpecValidator.held c.args.self.now) c.in-Some-alike_used.index
+    = simp to_z-of_z at c.in-Some-alike_used.ensures in
+    alike_first (g.Self.CorePartitionSpecValidator.held c.args.self.now) (seen c.args.field.now) c.in-Some-alike_used.index c.in_default.ensures first
 
 pub returns : goal.returns
 returns g c =
     let fits : SFits w32 c.args.field.now.source_id = search rules in
-    let none : Nowhere (AlikeOn c.args.field.now.source_id c.args.field.now.transform) (g.Self.CorePartitionSpecValidator.held c.args.self.now) = simp to_z-of_z at c.in-default-alike-used.ensures in
-    neither_used (g.Self.CorePartitionSpecValidator.held c.args.self.now) (seen c.args.field.now) c.in-default.ensures none
+    let none : Nowhere (AlikeOn c.args.field.now.source_id c.args.field.now.transform) (g.Self.CorePartitionSpecValidator.held c.args.self.now) = simp to_z-of_z at c.in_default-alike_used.ensures in
+    neither_used (g.Self.CorePartitionSpecValidator.held c.args.self.now) (seen c.args.field.now) c.in_default.ensures none

@@ -8,14 +8,14 @@ use Rattle.partitions.proofs.Finding.{somewhere, passed, no_gap}
 use Rattle.partitions.proofs.validator.CorePartitionSpecValidator.id_used.Goals as goal
 use Rattle.partitions.proofs.validator.CorePartitionSpecValidator.id_used.Goals.{in-Some+else-has-id, in-default}
 
-pub returns-then-has-id : goal.returns-then-has-id
-returns-then-has-id g c =
-    let fits : SFits w32 c.args.field-id = c.ranges.field-id in
-    let here : HasId c.args.field-id (seen c.in-Some.field) = simp to_z-of_z at (c.if-has-id.ensures.0 refl) in
-    somewhere (HasId c.args.field-id) (g.Self.CorePartitionSpecValidator.held c.args.self.now) c.loop-index.index (seen c.in-Some.field) c.in-Some.ensures here
+pub returns-then-has_id : goal.returns-then-has_id
+returns-then-has_id g c =
+    let fits : SFits w32 c.args.field_id = c.ranges.field_id in
+    let here : HasId c.args.field_id (seen c.in-Some.field) = simp to_z-of_z at (c.if-has_id.ensures.0 refl) in
+    somewhere (HasId c.args.field_id) (g.Self.CorePartitionSpecValidator.held c.args.self.now) c.loop-index.index (seen c.in-Some.field) c.in-Some.ensures here
 
 pub loop-index-preserved : goal.loop-index-preserved
-loop-index-preserved g c = elim c.match-field-at.branch [
-  | in-Some+else-has-id w ↦ passed (HasId (to_z w32 (of_z w32 c.args.field-id))) (g.Self.CorePartitionSpecValidator.held c.args.self.now) c.loop-index.index _ w.in-Some.ensures c.loop-index.invariant (λ p. false≢true (w.if-has-id.ensures.1 p))
-  | in-default w ↦ absurd (no_gap (g.Self.CorePartitionSpecValidator.held c.args.self.now) c.loop-index.index (omega arith) w.in-default.ensures)
+loop-index-preserved g c = elim c.match-field_at.branch [
+  | in-Some+else-has-id w ↦ passed (HasId (to_z w32 (of_z w32 c.args.field_id))) (g.Self.CorePartitionSpecValidator.held c.args.self.now) c.loop-index.index _ w.in-Some.ensures c.loop-index.invariant (λ p. false≢true (w.if-has_id.ensures.1 p))
+  | in-default w ↦ absurd (no_gap (g.Self.CorePartitionSpecValidator.held c.args.self.now) c.loop-index.index (omega arith) w.in_default.ensures)
 ]

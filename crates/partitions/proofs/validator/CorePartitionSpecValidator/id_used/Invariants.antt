@@ -4,4 +4,4 @@ use Rattle.partitions.specs.Places.{NoneBefore}
 use Rattle.partitions.proofs.validator.CorePartitionSpecValidator.id_used.Given as goal
 
 abbrev pub invariant-loop-index : goal.invariant-loop-index
-invariant-loop-index g l = NoneBefore (HasId l.field-id) (g.Self.CorePartitionSpecValidator.held l.self) l.index
+invariant-loop-index g l = NoneBefore (HasId l.field_id) (g.Self.CorePartitionSpecValidator.held l.self) l.index

@@ -19,4 +19,4 @@ pub loop-row-preserved : goal.loop-row-preserved
 loop-row-preserved c = left_past (by_name c.args.name.now) _ _ c.loop-row.invariant _ _ c.in-Some.ensures (same_name _ c.args.name.now _ _ c.eq.ensures c.if-eq.false)
 
 pub returns : goal.returns
-returns c = left_none (by_name c.args.name.now) _ _ c.loop-row.invariant c.in-default.ensures
+returns c = left_none (by_name c.args.name.now) _ _ c.loop-row.invariant c.in_default.ensures

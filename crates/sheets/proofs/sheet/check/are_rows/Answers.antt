@@ -8,4 +8,4 @@ pub loop-preserved : goal.loop-preserved
 loop-preserved c = alike_more _ c.loop.rest.now _ _ c.loop.invariant _ _ c.loop-test.true c.in-Some.ensures
 
 pub returns : goal.returns
-returns c = alike_all _ c.loop.rest.now _ _ c.loop.invariant c.is-empty.result c.loop-test.false c.is-empty.ensures
+returns c = alike_all _ c.loop.rest.now _ _ c.loop.invariant c.is_empty.result c.loop-test.false c.is_empty.ensures

@@ -13,8 +13,8 @@ returns-then-distance-end c =
     let few : c.in-Some-Some.count < 65536 = search rules in
     let short : c.in-Some-Some.distance < 65536 = search rules in
     let cut : length bs - 4 - 0 ≡ length bs - 4 = omega arith in
-    by_rows bs c.in-Some-Some.count c.in-Some-Some.distance few short c.in-Some-Some.ensures.1 c.in-Some-Some.ensures'.1 c.are-rows.result _ (ap (λ k. take k bs) cut)
-    (bytes_from_fits bs c.type-inv.bytes) c.if-bytes-lt-TRAILER.false c.if-distance-end.true c.are-rows.ensures
+    by_rows bs c.in-Some-Some.count c.in-Some-Some.distance few short c.in-Some-Some.ensures.1 c.in-Some-Some.ensures'.1 c.are_rows.result _ (ap (λ k. take k bs) cut)
+    (bytes_from_fits bs c.type_inv.bytes) c.if-bytes-lt-TRAILER.false c.if-distance-end.true c.are_rows.ensures
 
 pub returns-else-distance-end : goal.returns-else-distance-end
 returns-else-distance-end c =

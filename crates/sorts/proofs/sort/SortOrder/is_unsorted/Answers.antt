@@ -4,4 +4,4 @@ use Rattle.sorts.proofs.Zeros.{unsorted_decides}
 use Rattle.sorts.proofs.sort.SortOrder.is_unsorted.Goals as goal
 
 pub returns : goal.returns
-returns c = let order = c.args.self.now in unsorted_decides (order_of order) _ _ order.zero order.fields.ok.0 c.is-empty.ensures
+returns c = let order = c.args.self.now in unsorted_decides (order_of order) _ _ order.zero order.fields.ok.0 c.is_empty.ensures

@@ -6,12 +6,12 @@ use Rattle.sorts.proofs.Answered.{at_err, broken_at}
 use Rattle.sorts.proofs.Zeros.{zero_after}
 use Rattle.sorts.proofs.sort.SortOrder.with_order_id.Goals as goal
 
-pub returns-in-err-check-order-id : goal.returns-in-err-check-order-id
-returns-in-err-check-order-id c =
-    let fits : SFits w64 c.args.order-id = c.ranges.order-id in
+pub returns-in_err-check_order_id : goal.returns-in_err-check_order_id
+returns-in_err-check_order_id c =
+    let fits : SFits w64 c.args.order_id = c.ranges.order_id in
     at_err _ _ _ _ c.from-residual.ensures.1
-    (broken_at _ (Some c.args.order-id) _ (vec_items c.args.self.now.fields) (told c.in-err-check-order-id.field-0.0) (ap Some (to_z-of_z w64 _ fits)) c.as-slice.ensures.value c.in-err-check-order-id.ensures, refl)
+    (broken_at _ (Some c.args.order_id) _ (vec_items c.args.self.now.fields) (told c.in_err-check_order_id.field-0.0) (ap Some (to_z-of_z w64 _ fits)) c.as_slice.ensures.value c.in_err-check_order_id.ensures, refl)
 
-pub invariant-of-self : goal.invariant-of-self
-invariant-of-self c =
-    (search rules, (search rules, (zero_after _ _ _ _ c.in-ok-check-order-id.ensures refl (sym c.as-slice.ensures.value), tt)))
+pub invariant_of-self : goal.invariant_of-self
+invariant_of-self c =
+    (search rules, (search rules, (zero_after _ _ _ _ c.in_ok-check_order_id.ensures refl (sym c.as_slice.ensures.value), tt)))

@@ -9,13 +9,13 @@ use Rattle.partitions.proofs.fields.calls.FieldListCorePartitionSpecValidator.fi
 
 pub returns-in-Some : goal.returns-in-Some
 returns-in-Some c =
-    let inside = ltb-true c.args.index (length c.as-slice.result.now) (sym c.in-Some.ensures.lookup.0) in
+    let inside = ltb-true c.args.index (length c.as_slice.result.now) (sym c.in-Some.ensures.lookup.0) in
     ap Some c.view.ensures
-    ∙ nth_map paper_field c.as-slice.result.now c.args.index c.in-Some.field.now inside c.in-Some.ensures.lookup.1
-    ∙ ap (λ (fs : List UnboundPartitionField). slice_get (papers fs) c.args.index) c.as-slice.ensures.value
+    ∙ nth_map paper_field c.as_slice.result.now c.args.index c.in-Some.field.now inside c.in-Some.ensures.lookup.1
+    ∙ ap (λ (fs : List UnboundPartitionField). slice_get (papers fs) c.args.index) c.as_slice.ensures.value
 
 pub returns-in-None : goal.returns-in-None
 returns-in-None c =
-    let past = ltb-false c.args.index (length c.as-slice.result.now) (sym c.in-None.ensures.lookup.0) in
-    nth_map_past paper_field c.as-slice.result.now c.args.index past
-    ∙ ap (λ (fs : List UnboundPartitionField). slice_get (papers fs) c.args.index) c.as-slice.ensures.value
+    let past = ltb-false c.args.index (length c.as_slice.result.now) (sym c.in-None.ensures.lookup.0) in
+    nth_map_past paper_field c.as_slice.result.now c.args.index past
+    ∙ ap (λ (fs : List UnboundPartitionField). slice_get (papers fs) c.args.index) c.as_slice.ensures.value

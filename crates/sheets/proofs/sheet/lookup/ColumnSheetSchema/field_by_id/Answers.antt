@@ -33,4 +33,4 @@ returns c =
     let rest = c.loop-row.left.now in
     let id = c.args.id in
     let left : Left (by_id id) all rest = subst (λ z. Left (by_id z) all rest) (to_z-of_z w32 id c.ranges.id) c.loop-row.invariant in
-    left_none (by_id id) all rest left c.in-default.ensures
+    left_none (by_id id) all rest left c.in_default.ensures

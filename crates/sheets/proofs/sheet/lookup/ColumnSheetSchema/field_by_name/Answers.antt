@@ -7,18 +7,18 @@ use Rattle.sheets.specs.Decoded.{rows_of}
 use Rattle.sheets.specs.SheetColumns.{named}
 use Rattle.sheets.proofs.sheet.lookup.ColumnSheetSchema.field_by_name.Goals as goal
 
-pub returns-in-err-column : goal.returns-in-err-column
-returns-in-err-column c =
+pub returns-in_err-column : goal.returns-in_err-column
+returns-in_err-column c =
     let rows = map named (rows_of c.args.self.now.bytes.now) in
-    let id = c.in-ok-id.id in
+    let id = c.in_ok-id.id in
     let fits : SFits w32 id = search rules in
-    answered_by (shown rows) (rows_sound rows) c.args.name.now id _ None _ c.in-ok-id.ensures (to_z-of_z w32 id fits) c.in-err-column.ensures
-    c.from-residual-in-err-column.ensures
+    answered_by (shown rows) (rows_sound rows) c.args.name.now id _ None _ c.in_ok-id.ensures (to_z-of_z w32 id fits) c.in_err-column.ensures
+    c.from-residual-in_err-column.ensures
 
 pub returns : goal.returns
 returns c =
     let rows = map named (rows_of c.args.self.now.bytes.now) in
-    let id = c.in-ok-id.id in
+    let id = c.in_ok-id.id in
     let fits : SFits w32 id = search rules in
-    answered_by (shown rows) (rows_sound rows) c.args.name.now id _ (Some c.in-ok-column.column) _ c.in-ok-id.ensures (to_z-of_z w32 id fits)
-    c.in-ok-column.ensures refl
+    answered_by (shown rows) (rows_sound rows) c.args.name.now id _ (Some c.in_ok-column.column) _ c.in_ok-id.ensures (to_z-of_z w32 id fits)
+    c.in_ok-column.ensures refl
