@@ -1,11 +1,12 @@
 // Names that are kept: made of bytes that are copied, and compared by them.
-ghost use Rattle.std.specs.Prelude.{◌≡◌, Decides, MatchResult};
+ghost use Rattle.std.specs.Prelude.{◌≡◌, Decides, MatchResult, nat_eq};
 ghost use Rattle.faults.specs.Rules.{FirstBroken};
 ghost use Rattle.names.specs.GoodName.{GoodName};
 ghost use Rattle.names.specs.NameRules.{name_rules, told, GoodExactlyWhenKept};
 ghost use Rattle.names.specs.NameBytes.{name_bytes};
-ghost use Rattle.std.specs.Cmp.Rules.{comparing};
-ghost use Rattle.std.proofs.Common.{rules, arith};
+ghost use Rattle.std.specs.Cmp.{on_per, partial_equiv_from_equiv};
+ghost use Rattle.std.specs.Cmp.Lexicographic.{pointwise, nat_list_eq_equiv};
+ghost use Rattle.std.specs.Ordering.{on};
 
 use super::{MAX_LEN, Name, NameFault, check_name};
 
@@ -32,11 +33,14 @@ impl Name {
 }
 
 impl PartialEq for Name {
-    ghost equals = { λ x y r. Decides r (name_bytes x ≡ name_bytes y) };
+    ghost eq = { on name_bytes (pointwise nat_eq) };
 
-    ghost laws = { first_of (Prim.search (comparing, rules), Prim.grind (arith, Self.row.coded.inj)) };
+    ghost laws = { on_per name_bytes (partial_equiv_from_equiv nat_list_eq_equiv) };
 
-    fn eq(&self, other: &Name) -> bool {
+    fn eq(&self, other: &Name) -> bool
+        ensures value { result ≡ on name_bytes (pointwise nat_eq) self.now other.now }
+        ensures decides { Decides result (name_bytes self.now ≡ name_bytes other.now) }
+    {
         self.as_bytes() == other.as_bytes()
     }
 }

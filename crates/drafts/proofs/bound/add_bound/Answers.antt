@@ -14,8 +14,8 @@ returns-in_err-check_early g c =
     let fs = listed c.args.fields.now in
     let f = seen c.args.field.now in
     let fault = c.in_err-check_early.field-0.0 in
-    let p = err_from_is_err_and c.from-residual.result c.from-residual.ensures.1 in
-    stays (bound_rules columns fs f) fs (fs ++ f ∷ []) c.from-residual.result p.0 fault p.1 p.2 (early_first columns fs f (told fault) c.in_err-check_early.ensures)
+    let p = err_from_is_err_and c.from_residual.result c.from_residual.ensures.1 in
+    stays (bound_rules columns fs f) fs (fs ++ f ∷ []) c.from_residual.result p.0 fault p.1 p.2 (early_first columns fs f (told fault) c.in_err-check_early.ensures)
 
 pub returns : goal.returns
 returns g c =

@@ -14,8 +14,8 @@ returns-in_err-check_used g c =
     let fs = listed c.args.fields.now in
     let f = seen c.args.field.now in
     let fault = c.in_err-check_used.field-0.0 in
-    let p = err_from_is_err_and c.from-residual.result c.from-residual.ensures.1 in
-    refused (early_rules columns fs f) c.from-residual.result p.0 fault p.1 p.2 (used_first columns fs f c.in_default.ensures (told fault) c.in_err-check_used.ensures)
+    let p = err_from_is_err_and c.from_residual.result c.from_residual.ensures.1 in
+    refused (early_rules columns fs f) c.from_residual.result p.0 fault p.1 p.2 (used_first columns fs f c.in_default.ensures (told fault) c.in_err-check_used.ensures)
 
 pub returns : goal.returns
 returns g c =

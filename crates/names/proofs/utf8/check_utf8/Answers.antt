@@ -4,7 +4,7 @@ use Rattle.names.specs.Machine.{due}
 use Rattle.names.proofs.Chars.{to_utf8, one_notion}
 use Rattle.names.proofs.Walk.{Sofar, at_start, at_other, at_fault, ended_good, ended_short, no_text, not_start}
 use Rattle.names.proofs.utf8.check_utf8.Goals as goal
-use Rattle.names.proofs.utf8.check_utf8.Goals.{in-Start, in-default}
+use Rattle.names.proofs.utf8.check_utf8.Goals.{in-Start, in_default}
 
 pub returns-in-Fault : goal.returns-in-Fault
 returns-in-Fault c =
@@ -16,7 +16,7 @@ loop-i-preserved c = elim c.match-machine.branch [
   | in-Start w ↦
       subst (Sofar c.args.bytes.now _ _) (sym w.front-is)
       (at_start c.args.bytes.now c.loop-i.i _ _ c.loop-i.front _ c.loop-i.invariant c.loop-i-test.true refl c.step.ensures (ap due w.in-Start.is))
-  | in-default w ↦
+  | in_default w ↦
       subst (Sofar c.args.bytes.now _ _) (sym w.front-is)
       (at_other c.args.bytes.now c.loop-i.i _ _ c.loop-i.front _ c.loop-i.invariant c.loop-i-test.true refl c.step.ensures (not_start _ w.in_default.not-Start))
 ]

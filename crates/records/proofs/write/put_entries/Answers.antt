@@ -6,7 +6,7 @@ use Rattle.partitions.specs.Views.{paper_field}
 use Rattle.records.proofs.Bodies.{Room, laid_none, within, laid_more, laid_all}
 use Rattle.records.proofs.write.put_entries.Given as given
 use Rattle.records.proofs.write.put_entries.Goals as goal
-use Rattle.records.proofs.write.put_entries.Goals.{In-Some, in-Some, in-default}
+use Rattle.records.proofs.write.put_entries.Goals.{In-Some, in-Some, in_default}
 
 pub loop-index-init : goal.loop-index-init
 loop-index-init g c = laid_none (g.R.Recorded.plan c.args.plan.now).fields c.args.out.now
@@ -34,7 +34,7 @@ pub loop-index-preserved : goal.loop-index-preserved
 loop-index-preserved g c = elim c.match-entry_at.branch [
   | in-Some w ↦ laid_more (g.R.Recorded.plan c.args.plan.now).fields c.loop-index.index c.loop-index.at c.args.out.now c.loop-index.out (paper_field w.in-Some.field) (omega arith) w.in-Some.ensures c.requires c.loop-index.invariant
       w.put_entry-at.new.out c.match-entry_at.out w.put_entry-at.result c.match-entry_at.at w.at-is w.out-is w.put_entry-at.ensures.len w.put_entry-at.ensures.after
-  | in-default w ↦ absurd (no_gap (g.R.Recorded.plan c.args.plan.now).fields c.loop-index.index (omega arith) w.in_default.ensures)
+  | in_default w ↦ absurd (no_gap (g.R.Recorded.plan c.args.plan.now).fields c.loop-index.index (omega arith) w.in_default.ensures)
 ]
 
 pub returns : goal.returns

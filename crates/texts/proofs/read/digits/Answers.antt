@@ -11,8 +11,8 @@ pub returns-in_default : goal.returns-in_default
 returns-in_default c =
     non_digit_at c.args.text.now c.loop-b.b-index c.loop-b.n c.loop-b-test.true c.loop-b.invariant (λ digit. omega (arith, digit.0, digit.1))
 
-pub returns-in-default·2 : goal.returns-in-default·2
-returns-in-default·2 c =
+pub returns-in_default-2 : goal.returns-in_default-2
+returns-in_default-2 c =
     non_digit_at c.args.text.now c.loop-b.b-index c.loop-b.n c.loop-b-test.true c.loop-b.invariant (λ digit. omega (arith, digit.0, digit.1))
 
 pub loop-b-preserved : goal.loop-b-preserved

@@ -28,17 +28,17 @@ pub returns-in_err-width : goal.returns-in_err-width
 returns-in_err-width c =
     let text = c.args.text.now in
     let e = begun (codes "bucket") text (omega (arith, ltb-true, ltb-false)) (search arith) in
-    let p = err_from_is_err_and c.from-residual.result c.from-residual.ensures.1 in
+    let p = err_from_is_err_and c.from_residual.result c.from_residual.ensures.1 in
     let r = subst (LooseReading text) (sym (p.1 ∙ ap (λ f. Err f) p.2)) (refused_after (codes "bucket") text _ (λ _ a. inl a) e c.in_err-width.field-0.0 c.in_err-width.ensures) in
-    record { reading = r; only = λ s. loose_only text c.from-residual.result s r }
+    record { reading = r; only = λ s. loose_only text c.from_residual.result s r }
 
 pub returns-in_err-width-2 : goal.returns-in_err-width-2
 returns-in_err-width-2 c =
     let text = c.args.text.now in
     let e = begun (codes "truncate") text (omega (arith, ltb-true, ltb-false)) (search arith) in
-    let p = err_from_is_err_and c.from-residual-in_err-width-2.result c.from-residual-in_err-width-2.ensures.1 in
+    let p = err_from_is_err_and c.from_residual-in_err-width-2.result c.from_residual-in_err-width-2.ensures.1 in
     let r = subst (LooseReading text) (sym (p.1 ∙ ap (λ f. Err f) p.2)) (refused_after (codes "truncate") text _ (λ _ a. inr a) e c.in_err-width-2.field-0.0 c.in_err-width-2.ensures) in
-    record { reading = r; only = λ s. loose_only text c.from-residual-in_err-width-2.result s r }
+    record { reading = r; only = λ s. loose_only text c.from_residual-in_err-width-2.result s r }
 
 pub returns : goal.returns
 returns c =

@@ -12,14 +12,14 @@ returns-in-empty c =
     width_so (Err WidthMissing) c.past_open.ensures c.before_close-bare.ensures
     (nil_from_length c.before_close-bare.result.now (omega (arith, ltb-true, ltb-false)))
 
-pub returns-in-empty-default : goal.returns-in-empty-default
-returns-in-empty-default c =
+pub returns-in-empty-rest : goal.returns-in-empty-rest
+returns-in-empty-rest c =
     let bare = c.before_close-bare.result.now in
     width_so (Err WidthNonDigit) c.past_open.ensures c.before_close-bare.ensures
     (inl (lone_plus bare (omega arith) (omega (arith, ltb-true, ltb-false, length-drop 1 bare, length-take (length bare - 1) (drop 1 bare)))))
 
-pub returns-in_default-default : goal.returns-in_default-default
-returns-in_default-default c =
+pub returns-in_default-rest : goal.returns-in_default-rest
+returns-in_default-rest c =
     let bare = c.before_close-bare.result.now in
     width_so c.digits.result c.past_open.ensures c.before_close-bare.ensures
     (read_after_plus bare (drop 1 bare) (without_leading_plus_plus bare (omega arith))

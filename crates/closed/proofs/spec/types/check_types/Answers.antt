@@ -21,9 +21,9 @@ returns-in_err-type_of g c =
     let size = length-map fs opened in
     let inside : i < length (openeds fs) = omega arith in
     let fault = c.in_err-type_of.field-0.0 in
-    let p = err_from_is_err_and {Q = λ e. e ≡ c.in_err-type_of.field-0.0} c.from-residual.result c.from-residual.ensures.1 in
+    let p = err_from_is_err_and {Q = λ e. e ≡ c.in_err-type_of.field-0.0} c.from_residual.result c.from_residual.ensures.1 in
     let b = broken_here columns (openeds fs) i (opened f) inside (opened_at fs i f c.loop-field-test.true c.field-item.is) (told fault) c.loop-field.invariant c.in_err-type_of.ensures in
-    refused_by (KeptBefore columns (openeds fs) (length fs)) (each_rules columns (openeds fs)) c.from-residual.result p.0 fault p.1 p.2 b
+    refused_by (KeptBefore columns (openeds fs) (length fs)) (each_rules columns (openeds fs)) c.from_residual.result p.0 fault p.1 p.2 b
 
 pub loop-field-preserved : goal.loop-field-preserved
 loop-field-preserved g c =

@@ -12,7 +12,7 @@ use Rattle.closed.specs.declared.types.TypeField.{TypeField}
 use Rattle.closed.proofs.Asked.{opened_at}
 use Rattle.closed.proofs.Typings.{typed_none, typed_more}
 use Rattle.closed.proofs.spec.types.write_types.Goals as goal
-use Rattle.closed.proofs.spec.types.write_types.Goals.{in-Ok, in-default}
+use Rattle.closed.proofs.spec.types.write_types.Goals.{in-Ok, in_default}
 
 pub loop-place-init : goal.loop-place-init
 loop-place-init g c = typed_none (g.S.Schema.columns c.args.schema.now) (openeds c.args.fields.now) c.args.into.now
@@ -34,7 +34,7 @@ loop-place-preserved g c =
           let is : c.match-type_of.into ≡ set c.loop-place.into i x = simp to_z-of_z at w.into-is in
           subst (Typed columns (openeds fs) (i + 1) c.args.into.now) (sym is)
           (typed_more columns (openeds fs) i (opened f) inside at c.args.into.now c.loop-place.into x room (record { id = refl; result = w.in-Ok.ensures; ordinal = refl }) c.loop-place.invariant)
-      | in-default w ↦
+      | in_default w ↦
           let kept : AllKept (field_rules columns (opened f)) = subst (λ (p : PaperField). AllKept (field_rules columns p)) (sym at) (c.requires.kept i (opened f) c.loop-place-test.true) in
           absurd (not_both (told w.in_default.field-0) (field_rules columns (opened f)) kept w.in_default.ensures)
     ]

@@ -11,9 +11,9 @@ use Rattle.drafts.proofs.builder.PartitionSpecBuilder.new_from_unbound.Goals as 
 
 pub returns-in_err-check_all : goal.returns-in_err-check_all
 returns-in_err-check_all g c =
-    let p = err_from_is_err_and c.from-residual.result c.from-residual.ensures.1 in
+    let p = err_from_is_err_and c.from_residual.result c.from_residual.ensures.1 in
     refused_by (g.S.Schema.columns c.args.schema.now) (paper_spec c.args.unbound) c.into_parts-spec_id.result.0 (listed c.into_parts-spec_id.result.1) (papers c.as_slice.result.now)
-    c.into_parts-spec_id.ensures c.as_slice.ensures.same c.as_slice.ensures.buildable c.from-residual.result p.0 c.in_err-check_all.field-0.0 p.1 p.2 c.in_err-check_all.ensures
+    c.into_parts-spec_id.ensures c.as_slice.ensures.same c.as_slice.ensures.buildable c.from_residual.result p.0 c.in_err-check_all.field-0.0 p.1 p.2 c.in_err-check_all.ensures
 
 pub returns : goal.returns
 returns g c =

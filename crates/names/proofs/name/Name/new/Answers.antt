@@ -5,10 +5,11 @@ use Rattle.names.proofs.Good.{exactly}
 use Rattle.names.proofs.Kept.{copied}
 use Rattle.names.proofs.name.Name.new.Goals as goal
 
-pub invariant_of-result : goal.invariant_of-result
-invariant_of-result c =
-    let good = c.in_ok-check_name.ensures in
-    (omega (arith, good.short), (∣ subst GoodName (sym (copied _ _ _ c.copy_from_slice.ensures.after)) good ∣₁, tt))
+pub invariant_of-result-clause-short : goal.invariant_of-result-clause-short
+invariant_of-result-clause-short c = omega (arith, c.in_ok-check_name.ensures.short)
+
+pub invariant_of-result-clause-good : goal.invariant_of-result-clause-good
+invariant_of-result-clause-good c = ∣ subst GoodName (sym (copied _ _ _ c.copy_from_slice.ensures.after)) c.in_ok-check_name.ensures ∣₁
 
 pub returns : goal.returns
 returns c = record { made = (copied _ _ _ c.copy_from_slice.ensures.after, c.in_ok-check_name.ensures); rules = exactly }

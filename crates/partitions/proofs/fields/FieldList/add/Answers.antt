@@ -11,8 +11,8 @@ use Rattle.partitions.proofs.fields.FieldList.add.Goals as goal
 
 pub returns-in_err-name : goal.returns-in_err-name
 returns-in_err-name c =
-    let p = err_from_is_err_and c.from-residual.result c.from-residual.ensures.1 in
-    unchanged (listed c.args.self.now) (seen c.args.field.now) c.from-residual.result p.0 c.in_err-name.field-0.0 p.1 p.2 c.in_err-name.ensures.rules
+    let p = err_from_is_err_and c.from_residual.result c.from_residual.ensures.1 in
+    unchanged (listed c.args.self.now) (seen c.args.field.now) c.from_residual.result p.0 c.in_err-name.field-0.0 p.1 p.2 c.in_err-name.ensures.rules
 
 pub push_reserved-requires : goal.push_reserved-requires
 push_reserved-requires c =

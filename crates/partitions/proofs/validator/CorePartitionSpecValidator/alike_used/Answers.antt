@@ -7,7 +7,7 @@ use Rattle.partitions.specs.Places.{NoneBefore}
 use Rattle.partitions.specs.Views.{seen}
 use Rattle.partitions.proofs.Finding.{found, passed, no_gap}
 use Rattle.partitions.proofs.validator.CorePartitionSpecValidator.alike_used.Goals as goal
-use Rattle.partitions.proofs.validator.CorePartitionSpecValidator.alike_used.Goals.{in-Some+else-is-alike, in-default}
+use Rattle.partitions.proofs.validator.CorePartitionSpecValidator.alike_used.Goals.{in-Some+else-is_alike, in_default}
 
 pub returns-then-is_alike : goal.returns-then-is_alike
 returns-then-is_alike g c =
@@ -19,6 +19,6 @@ returns-then-is_alike g c =
 
 pub loop-index-preserved : goal.loop-index-preserved
 loop-index-preserved g c = elim c.match-field_at.branch [
-  | in-Some+else-is-alike w ↦ passed (AlikeOn (to_z w32 (of_z w32 c.args.source_id)) c.args.transform) (g.Self.CorePartitionSpecValidator.held c.args.self.now) c.loop-index.index _ w.in-Some.ensures c.loop-index.invariant (λ p. false≢true (w.if-is_alike.ensures.1 p))
-  | in-default w ↦ absurd (no_gap (g.Self.CorePartitionSpecValidator.held c.args.self.now) c.loop-index.index (omega arith) w.in_default.ensures)
+  | in-Some+else-is_alike w ↦ passed (AlikeOn (to_z w32 (of_z w32 c.args.source_id)) c.args.transform) (g.Self.CorePartitionSpecValidator.held c.args.self.now) c.loop-index.index _ w.in-Some.ensures c.loop-index.invariant (λ p. false≢true (w.if-is_alike.ensures.1 p))
+  | in_default w ↦ absurd (no_gap (g.Self.CorePartitionSpecValidator.held c.args.self.now) c.loop-index.index (omega arith) w.in_default.ensures)
 ]

@@ -7,26 +7,26 @@ use Rattle.partitions.specs.Places.{Nowhere, Somewhere}
 use Rattle.partitions.specs.Views.{seen}
 use Rattle.partitions.proofs.Judging.{unstated, free, full_first, last_kept}
 use Rattle.partitions.proofs.validator.CorePartitionSpecValidator.check_last.Goals as goal
-use Rattle.partitions.proofs.validator.CorePartitionSpecValidator.check_last.Goals.{in-Some+else-id-used, in-default}
+use Rattle.partitions.proofs.validator.CorePartitionSpecValidator.check_last.Goals.{in-Some+else-id_used, in_default}
 
 pub returns-then-field_count-ge-MAX-FIELDS : goal.returns-then-field_count-ge-MAX-FIELDS
 returns-then-field_count-ge-MAX-FIELDS g c =
     let kept : Kept (rule 27 (Somewhere (HasStatedId c.args.field.now.field_id) (g.Self.CorePartitionSpecValidator.held c.args.self.now))) = elim c.match-field.branch [
-      | in-Some+else-id-used w ↦
+      | in-Some+else-id_used w ↦
           let fits : SFits w32 w.in-Some.field_id = search rules in
           let none : Nowhere (HasId w.in-Some.field_id) (g.Self.CorePartitionSpecValidator.held c.args.self.now) = simp to_z-of_z at w.if-id_used.ensures in
           free (g.Self.CorePartitionSpecValidator.held c.args.self.now) (seen c.args.field.now) w.in-Some.field_id w.in-Some.is none
-      | in-default w ↦ unstated (g.Self.CorePartitionSpecValidator.held c.args.self.now) (seen c.args.field.now) w.in_default.is
+      | in_default w ↦ unstated (g.Self.CorePartitionSpecValidator.held c.args.self.now) (seen c.args.field.now) w.in_default.is
     ] in
     full_first (g.Self.CorePartitionSpecValidator.held c.args.self.now) (seen c.args.field.now) kept (omega arith)
 
 pub returns : goal.returns
 returns g c =
     let kept : Kept (rule 27 (Somewhere (HasStatedId c.args.field.now.field_id) (g.Self.CorePartitionSpecValidator.held c.args.self.now))) = elim c.match-field.branch [
-      | in-Some+else-id-used w ↦
+      | in-Some+else-id_used w ↦
           let fits : SFits w32 w.in-Some.field_id = search rules in
           let none : Nowhere (HasId w.in-Some.field_id) (g.Self.CorePartitionSpecValidator.held c.args.self.now) = simp to_z-of_z at w.if-id_used.ensures in
           free (g.Self.CorePartitionSpecValidator.held c.args.self.now) (seen c.args.field.now) w.in-Some.field_id w.in-Some.is none
-      | in-default w ↦ unstated (g.Self.CorePartitionSpecValidator.held c.args.self.now) (seen c.args.field.now) w.in_default.is
+      | in_default w ↦ unstated (g.Self.CorePartitionSpecValidator.held c.args.self.now) (seen c.args.field.now) w.in_default.is
     ] in
     last_kept (g.Self.CorePartitionSpecValidator.held c.args.self.now) (seen c.args.field.now) kept (omega arith)

@@ -6,7 +6,7 @@ use Rattle.partitions.specs.Fields.{HasId}
 use Rattle.partitions.specs.Views.{seen}
 use Rattle.partitions.proofs.Finding.{somewhere, passed, no_gap}
 use Rattle.partitions.proofs.validator.CorePartitionSpecValidator.id_used.Goals as goal
-use Rattle.partitions.proofs.validator.CorePartitionSpecValidator.id_used.Goals.{in-Some+else-has-id, in-default}
+use Rattle.partitions.proofs.validator.CorePartitionSpecValidator.id_used.Goals.{in-Some+else-has_id, in_default}
 
 pub returns-then-has_id : goal.returns-then-has_id
 returns-then-has_id g c =
@@ -16,6 +16,6 @@ returns-then-has_id g c =
 
 pub loop-index-preserved : goal.loop-index-preserved
 loop-index-preserved g c = elim c.match-field_at.branch [
-  | in-Some+else-has-id w ↦ passed (HasId (to_z w32 (of_z w32 c.args.field_id))) (g.Self.CorePartitionSpecValidator.held c.args.self.now) c.loop-index.index _ w.in-Some.ensures c.loop-index.invariant (λ p. false≢true (w.if-has_id.ensures.1 p))
-  | in-default w ↦ absurd (no_gap (g.Self.CorePartitionSpecValidator.held c.args.self.now) c.loop-index.index (omega arith) w.in_default.ensures)
+  | in-Some+else-has_id w ↦ passed (HasId (to_z w32 (of_z w32 c.args.field_id))) (g.Self.CorePartitionSpecValidator.held c.args.self.now) c.loop-index.index _ w.in-Some.ensures c.loop-index.invariant (λ p. false≢true (w.if-has_id.ensures.1 p))
+  | in_default w ↦ absurd (no_gap (g.Self.CorePartitionSpecValidator.held c.args.self.now) c.loop-index.index (omega arith) w.in_default.ensures)
 ]

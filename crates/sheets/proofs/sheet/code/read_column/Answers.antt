@@ -5,7 +5,7 @@ use Rattle.sheets.proofs.sheet.code.read_column.Goals as goal
 
 pub returns-in_err-field_type : goal.returns-in_err-field_type
 returns-in_err-field_type c =
-    subst (ReadsColumn c.args.byte c.args.parameters) (sym c.from-residual.ensures) (no_type c.args.byte c.args.parameters c.ranges.parameters.fits c.in_err-field_type.ensures)
+    subst (ReadsColumn c.args.byte c.args.parameters) (sym c.from_residual.ensures) (no_type c.args.byte c.args.parameters c.ranges.parameters.fits c.in_err-field_type.ensures)
 
 pub returns-then-parameters_of-parameters : goal.returns-then-parameters_of-parameters
 returns-then-parameters_of-parameters c =

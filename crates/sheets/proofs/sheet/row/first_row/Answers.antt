@@ -9,7 +9,7 @@ returns-then-bytes-lt-HEAD c = λ row rest b. omega (arith, (placed _ row rest b
 
 pub returns-in_err-column : goal.returns-in_err-column
 returns-in_err-column c =
-    subst (ReadsRow c.args.bytes.now) (sym c.from-residual-in_err-column.ensures)
+    subst (ReadsRow c.args.bytes.now) (sym c.from_residual-in_err-column.ensures)
     (λ row rest b. c.in_err-column.ensures row.column (column_there _ row rest _ b c.in_ok-parameters.ensures.1))
 
 pub returns-then-end-bytes : goal.returns-then-end-bytes

@@ -9,7 +9,7 @@ use Rattle.sorts.proofs.sort.SortOrder.with_order_id.Goals as goal
 pub returns-in_err-check_order_id : goal.returns-in_err-check_order_id
 returns-in_err-check_order_id c =
     let fits : SFits w64 c.args.order_id = c.ranges.order_id in
-    at_err _ _ _ _ c.from-residual.ensures.1
+    at_err _ _ _ _ c.from_residual.ensures.1
     (broken_at _ (Some c.args.order_id) _ (vec_items c.args.self.now.fields) (told c.in_err-check_order_id.field-0.0) (ap Some (to_z-of_z w64 _ fits)) c.as_slice.ensures.value c.in_err-check_order_id.ensures, refl)
 
 pub invariant_of-self : goal.invariant_of-self

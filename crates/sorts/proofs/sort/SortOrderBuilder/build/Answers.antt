@@ -6,12 +6,12 @@ use Rattle.sorts.proofs.sort.SortOrderBuilder.build.Goals as goal
 pub returns-in_err-check_order_id : goal.returns-in_err-check_order_id
 returns-in_err-check_order_id g c =
     id_refused (g.S.Schema.columns c.args.schema.now) (draft_of c.args.self.now) (order_of c.args.order.now) _ c.as_slice-fields.ensures.value c.in_err-check_order_id.field-0.0 _
-    c.from-residual.ensures.1 c.in_err-check_order_id.ensures
+    c.from_residual.ensures.1 c.in_err-check_order_id.ensures
 
 pub returns-in_err-check_fields : goal.returns-in_err-check_fields
 returns-in_err-check_fields g c =
     field_refused (g.S.Schema.columns c.args.schema.now) (draft_of c.args.self.now) (order_of c.args.order.now) _ c.as_slice-fields.ensures.value c.in_err-check_fields.field-0.0 _
-    c.from-residual-in_err-check_fields.ensures.1 c.in_ok-check_order_id.ensures c.in_err-check_fields.ensures
+    c.from_residual-in_err-check_fields.ensures.1 c.in_ok-check_order_id.ensures c.in_err-check_fields.ensures
 
 pub returns : goal.returns
 returns g c =

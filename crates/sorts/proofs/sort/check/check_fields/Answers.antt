@@ -8,7 +8,7 @@ loop-field-init g c = left_all (g.S.Schema.columns c.args.schema.now) c.args.fie
 
 pub returns-in_err-check : goal.returns-in_err-check
 returns-in_err-check g c =
-    at_err _ _ _ _ c.from-residual.ensures.1
+    at_err _ _ _ _ c.from_residual.ensures.1
     (left_refused (g.S.Schema.columns c.args.schema.now) c.args.fields.now _ c.loop-field.invariant blank c.loop-field-test.true c.in_err-check.field-0.0 c.in_err-check.ensures)
 
 pub loop-field-preserved : goal.loop-field-preserved

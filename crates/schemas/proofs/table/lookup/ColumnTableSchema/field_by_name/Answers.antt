@@ -12,7 +12,7 @@ returns-in_err-column c =
     let id = c.in_ok-id.id in
     let fits : SFits w32 id = search rules in
     answered_by (shown rows) (rows_sound rows) c.args.name.now id _ None _ c.in_ok-id.ensures (to_z-of_z w32 id fits) c.in_err-column.ensures
-    c.from-residual-in_err-column.ensures
+    c.from_residual-in_err-column.ensures
 
 pub returns : goal.returns
 returns c =
