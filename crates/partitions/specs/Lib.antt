@@ -9,3 +9,5 @@ pub mod Listed
 pub mod BatchFaults
 pub mod Batches
 pub mod Specs
+pub mod Equals
+pub mod EqualLaws

@@ -2,8 +2,8 @@
 ghost use Rattle.std.specs.Prelude.{◌≡◌, Decides};
 ghost use Rattle.partitions.specs.Fields.{Named, AlikeOn, HasId};
 ghost use Rattle.partitions.specs.Views.{paper_field, seen};
-ghost use Rattle.std.specs.Cmp.Rules.{comparing};
-ghost use Rattle.std.proofs.Common.{rules};
+ghost use Rattle.partitions.specs.Equals.{field_eq};
+ghost use Rattle.partitions.specs.EqualLaws.{field_eq_laws};
 
 use names::name::Name;
 use numbering::StatesId;
@@ -61,11 +61,14 @@ impl FieldView<'_> {
 }
 
 impl PartialEq for UnboundPartitionField {
-    ghost equals = { λ x y r. Decides r (paper_field x ≡ paper_field y) };
+    ghost eq = { field_eq };
 
-    ghost laws = { Prim.search (comparing, rules) };
+    ghost laws = { field_eq_laws };
 
-    fn eq(&self, other: &UnboundPartitionField) -> bool {
+    fn eq(&self, other: &UnboundPartitionField) -> bool
+        ensures value { result ≡ field_eq self.now other.now }
+        ensures decides { Decides result (paper_field self.now ≡ paper_field other.now) }
+    {
         self.source_id == other.source_id
             && self.field_id == other.field_id
             && self.name == other.name

@@ -6,8 +6,8 @@ ghost use Rattle.partitions.specs.Fields.{field_of};
 ghost use Rattle.partitions.specs.Listed.{listed};
 ghost use Rattle.partitions.specs.Specs.{paper_spec, blank};
 ghost use Rattle.partitions.specs.Views.{papers};
-ghost use Rattle.std.specs.Cmp.Rules.{comparing};
-ghost use Rattle.std.proofs.Common.{rules};
+ghost use Rattle.partitions.specs.Equals.{spec_eq};
+ghost use Rattle.partitions.specs.EqualLaws.{spec_eq_laws};
 
 use crate::fault::DraftFault;
 use crate::field::{FieldView, UnboundPartitionField};
@@ -85,11 +85,14 @@ impl UnboundPartitionSpec {
 }
 
 impl PartialEq for UnboundPartitionSpec {
-    ghost equals = { λ x y r. Decides r (paper_spec x ≡ paper_spec y) };
+    ghost eq = { spec_eq };
 
-    ghost laws = { Prim.search (comparing, rules) };
+    ghost laws = { spec_eq_laws };
 
-    fn eq(&self, other: &UnboundPartitionSpec) -> bool {
+    fn eq(&self, other: &UnboundPartitionSpec) -> bool
+        ensures value { result ≡ spec_eq self.now other.now }
+        ensures decides { Decides result (paper_spec self.now ≡ paper_spec other.now) }
+    {
         self.spec_id == other.spec_id && self.fields() == other.fields()
     }
 }

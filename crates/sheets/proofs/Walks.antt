@@ -1,10 +1,11 @@
 -- A walk over the rows of bytes, to the first that passes a test.
 use Rattle.std.proofs.Common.{◌≡◌, ℕ, ◌<◌, Bool, true, false, List, map, length, ℤ, Some, None, Decides, sym, refl, ap, ◌∙◌, arith}
-use Rattle.std.specs.Cmp.Lexicographic.{Matches}
+use Rattle.std.specs.Cmp.Lexicographic.{pointwise, bytes_decides}
+use Rattle.std.specs.Prelude.{nat_eq}
 use Rattle.std.specs.Str.{bytes_eq}
-use Rattle.std.proofs.lemmas.Slice.Eq.{slice_eq-Decides, bytes_eq-Decides}
+use Rattle.std.proofs.lemmas.Slice.Eq.{bytes_eq-Decides}
 use Rattle.std.proofs.lemmas.Bool.{cond-true, cond-false}
-use Rattle.std.proofs.lemmas.Bool.Decides.{same_from_decides, Decides-eqb}
+use Rattle.std.proofs.lemmas.Bool.Decides.{same_from_decides, Decides-at}
 use Rattle.schemas.specs.Ids.{same}
 use Rattle.schemas.specs.Rows.{column_in, id_in}
 use Rattle.schemas.specs.declared.schema.Column.{Column}
@@ -48,5 +49,5 @@ module _ {V : Type 0} (l : Lookup SheetRow V) (all : List SheetRow) (rest : List
 pub shorter : (bs : List ℕ) (row : SheetRow) (after : List ℕ) → Begins bs row after → length after < length bs
 shorter bs row after b = omega (arith, (placed bs row after b).long)
 
-pub same_name : (own name : List ℕ) (r t : Bool) → Matches (λ a b u. Decides u (a ≡ b)) own name r → r ≡ t → bytes_eq own name ≡ t
-same_name own name r t m e = same_from_decides (bytes_eq own name) r (bytes_eq-Decides own name) (slice_eq-Decides Decides-eqb own name r m) ∙ e
+pub same_name : (own name : List ℕ) (r t : Bool) → r ≡ pointwise nat_eq own name → r ≡ t → bytes_eq own name ≡ t
+same_name own name r t p e = same_from_decides (bytes_eq own name) r (bytes_eq-Decides own name) (Decides-at r _ p (bytes_decides own name)) ∙ e

@@ -1,17 +1,22 @@
 // Equality of orders.
 ghost use Rattle.std.specs.Prelude.{◌≡◌, Decides};
+ghost use Rattle.std.specs.Cmp.{and_per, on_per, partial_equiv_from_equiv, int_eq_equiv};
+ghost use Rattle.std.specs.Cmp.Lexicographic.{lists_per};
+ghost use Rattle.sorts.specs.contracts.sort.SortFieldPartialEq.TheImpl.Laws.{laws-law};
 ghost use Rattle.sorts.specs.Drafts.{order_of};
-ghost use Rattle.std.specs.Cmp.Rules.{comparing};
-ghost use Rattle.std.proofs.Common.{rules, arith};
+ghost use Rattle.sorts.specs.Equals.{order_eq};
 
 use super::SortOrder;
 
 impl PartialEq for SortOrder {
-    ghost equals = { λ x y r. Decides r (order_of x ≡ order_of y) };
+    ghost eq = { order_eq };
 
-    ghost laws = { first_of (Prim.search (comparing, rules), Prim.grind (arith, Self.row.coded.inj)) };
+    ghost laws = { and_per (on_per (λ o. o.order_id) (partial_equiv_from_equiv int_eq_equiv)) (on_per (λ o. o.fields.items) (lists_per laws-law)) };
 
-    fn eq(&self, other: &SortOrder) -> bool {
+    fn eq(&self, other: &SortOrder) -> bool
+        ensures value { result ≡ order_eq self.now other.now }
+        ensures decides { Decides result (order_of self.now ≡ order_of other.now) }
+    {
         self.order_id == other.order_id && self.fields() == other.fields()
     }
 }

@@ -27,7 +27,7 @@ invariant_of-self c =
     let fits : SFits w32 c.args.field.now.source_id = search rules in
     let x : UnboundPartitionField = record { source_id = c.args.field.now.source_id; field_id = c.args.field.now.field_id; name = c.in_ok-name.name; transform = c.args.field.now.transform } in
     let b = buildable_added c.args.self.now (vec_items c.push_reserved.new.self) x c.args.field.now.name.now (simp to_z-of_z at c.push_reserved.ensures.items) c.in_ok-name.ensures.name c.in_ok-name.ensures.rules in
-    (omega (arith, c.push_reserved.ensures.len), (omega (arith, c.push_reserved.ensures.capacity), (b.names, (b.sources, (b.ids, tt)))))
+    record { few = omega (arith, c.push_reserved.ensures.len); room = omega (arith, c.push_reserved.ensures.capacity); names = b.names; sources = b.sources; ids = b.ids }
 
 pub returns : goal.returns
 returns c =

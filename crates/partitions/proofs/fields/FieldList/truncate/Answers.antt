@@ -12,7 +12,7 @@ invariant_of-self c =
     let room = c.args.self.now.room in
     let e = papers_take c.args.count (vec_items c.args.self.now.fields) (vec_items c.truncate.new.self) c.truncate.ensures.items in
     let b = subst Buildable (sym e) (buildable_take c.args.count (listed c.args.self.now) (buildable_listed c.args.self.now)) in
-    (omega (arith, c.truncate.ensures.len), (omega (arith, c.truncate.ensures.capacity), (b.names, (b.sources, (b.ids, tt)))))
+    record { few = omega (arith, c.truncate.ensures.len); room = omega (arith, c.truncate.ensures.capacity); names = b.names; sources = b.sources; ids = b.ids }
 
 pub returns : goal.returns
 returns c = papers_take c.args.count (vec_items c.args.self.now.fields) (vec_items c.truncate.new.self) c.truncate.ensures.items

@@ -9,8 +9,8 @@ use Rattle.partitions.proofs.Judging.{unstated, free, full_first, last_kept}
 use Rattle.partitions.proofs.validator.CorePartitionSpecValidator.check_last.Goals as goal
 use Rattle.partitions.proofs.validator.CorePartitionSpecValidator.check_last.Goals.{in-Some+else-id_used, in_default}
 
-pub returns-then-field_count-ge-MAX-FIELDS : goal.returns-then-field_count-ge-MAX-FIELDS
-returns-then-field_count-ge-MAX-FIELDS g c =
+pub returns-then-field_count-ge-MAX_FIELDS : goal.returns-then-field_count-ge-MAX_FIELDS
+returns-then-field_count-ge-MAX_FIELDS g c =
     let kept : Kept (rule 27 (Somewhere (HasStatedId c.args.field.now.field_id) (g.Self.CorePartitionSpecValidator.held c.args.self.now))) = elim c.match-field.branch [
       | in-Some+else-id_used w ↦
           let fits : SFits w32 w.in-Some.field_id = search rules in

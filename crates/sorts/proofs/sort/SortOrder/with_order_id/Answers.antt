@@ -12,6 +12,5 @@ returns-in_err-check_order_id c =
     at_err _ _ _ _ c.from_residual.ensures.1
     (broken_at _ (Some c.args.order_id) _ (vec_items c.args.self.now.fields) (told c.in_err-check_order_id.field-0.0) (ap Some (to_z-of_z w64 _ fits)) c.as_slice.ensures.value c.in_err-check_order_id.ensures, refl)
 
-pub invariant_of-self : goal.invariant_of-self
-invariant_of-self c =
-    (search rules, (search rules, (zero_after _ _ _ _ c.in_ok-check_order_id.ensures refl (sym c.as_slice.ensures.value), tt)))
+pub invariant_of-self-clause-zero : goal.invariant_of-self-clause-zero
+invariant_of-self-clause-zero c = zero_after _ _ _ _ c.in_ok-check_order_id.ensures refl (sym c.as_slice.ensures.value)

@@ -4,8 +4,8 @@ use Rattle.std.proofs.lemmas.Int.{to_z-of_z}
 use Rattle.sorts.proofs.Zeros.{zero_after}
 use Rattle.sorts.proofs.sort.SortOrderBuilder.fill.Goals as goal
 
-pub invariant_of-order : goal.invariant_of-order
-invariant_of-order c =
+pub invariant_of-order-clause-zero : goal.invariant_of-order-clause-zero
+invariant_of-order-clause-zero c =
     let fits : SFits w64 c.closing_id-order.result = search rules in
     let filled : vec_items c.extend_from_slice.new.self ≡ vec_items c.args.self.now.fields = search rules in
-    (search rules, (search rules, (zero_after _ _ _ _ c.requires (to_z-of_z w64 _ fits ∙ c.closing_id-order.ensures) filled, tt)))
+    zero_after _ _ _ _ c.requires (to_z-of_z w64 _ fits ∙ c.closing_id-order.ensures) filled

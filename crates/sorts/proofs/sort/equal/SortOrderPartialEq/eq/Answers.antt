@@ -4,7 +4,7 @@ use Rattle.sorts.specs.Drafts.{order_of}
 use Rattle.sorts.proofs.Equality.{order_decides}
 use Rattle.sorts.proofs.sort.equal.SortOrderPartialEq.eq.Goals as goal
 
-pub returns-then-self-other : goal.returns-then-self-other
-returns-then-self-other c =
+pub returns-then-self-other-clause-decides : goal.returns-then-self-other-clause-decides
+returns-then-self-other-clause-decides c =
     let ids : c.args.self.now.order_id ≡ c.args.other.now.order_id = search rules in
     order_decides (order_of c.args.self.now) (order_of c.args.other.now) _ _ _ ids c.fields.ensures.fields c.fields-then-self-other.ensures.fields c.eq.ensures
