@@ -1,5 +1,5 @@
 -- The first words of a script's commands. Assumes nothing.
-use Rattle.std.specs.Prelude.{◌≡◌, ℕ, List, codes, ◌≢◌}
+use Rattle.std.specs.Prelude.{ℕ, List, codes, ◌≢◌}
 use Rattle.commands.specs.declared.verb.Verb.{Verb}
 use Rattle.commands.specs.declared.verb.Verb.TheVariants.{Column, Columns, Regular, Sheet, Select, Name, Transform, Strict, Result, Preserves, Satisfies, Alike, Draft, Unbound, SpecId, Start, Add, AddByName, Batch, Close, Bind, Open, OpenBind, PartitionType, Unpartitioned, Sequential, Highest, Compatible, Equal, RecordOf, RecordUnbound, Read, Items, SortNew, SortId, Sort, SortBuild, SortBuildUnbound}
 

@@ -1,4 +1,6 @@
 // The commands of a plan script, read from its lines.
+#![tactic(auto)]
+
 pub mod command;
 pub mod fault;
 mod types;

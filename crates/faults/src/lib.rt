@@ -1,4 +1,6 @@
 // What every refusal tells: its number, its kind, its layer, its reason, a value and an index.
+#![tactic(auto)]
+
 ghost use Rattle.std.specs.Prelude.{◌≡◌};
 ghost use Rattle.faults.specs.Told.{Told, kind_word, layer_word};
 

@@ -1,4 +1,6 @@
 // Names: their bytes checked, kept in place, and found in an area of bytes.
+#![tactic(auto)]
+
 pub mod name;
 #[cfg(test)]
 mod tests;

@@ -1,4 +1,6 @@
 // The ids of partition fields: the missing ones are given, and those that are there are asked about.
+#![tactic(auto)]
+
 ghost use Rattle.std.specs.Prelude.{◌≡◌, ℤ, Option};
 
 mod numbers;

@@ -1,3 +1,5 @@
 // Big-endian numbers in bytes.
+#![tactic(auto)]
+
 pub mod put;
 pub mod read;

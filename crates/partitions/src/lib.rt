@@ -1,4 +1,6 @@
 // Partition fields, the checks that every holder of them shares, and unbound drafts and specs.
+#![tactic(auto)]
+
 pub mod batch;
 pub mod builder;
 pub mod fault;

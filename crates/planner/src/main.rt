@@ -1,4 +1,6 @@
 // Plays a plan script: the file named, or standard input.
+#![tactic(auto)]
+
 use anyhow::anyhow;
 use script::normal::normalise;
 use script::play::play;

@@ -1,4 +1,6 @@
 // Plays the script on standard input, which holds what the published crate was asked; its answers are stored beside it.
+#![tactic(auto)]
+
 use script::play::play;
 use std::io::BufWriter;
 

@@ -1,10 +1,10 @@
 -- What a schema's lookups say of each other, and of a schema that shows the same.
-use Rattle.std.proofs.Common.{◌≡◌, ℕ, true, List, ℤ, is_some, Some, None, Option, sym, refl, ap, ◌∙◌}
+use Rattle.std.proofs.Common.{◌≡◌, ℕ, true, List, ℤ, is_some, Some, None, Option, refl, ap, ◌∙◌}
 use mathlib.Core.Path.{fun_ext}
 use Rattle.std.specs.Option.{option_map}
 use Rattle.schemas.specs.declared.schema.Column.{Column}
 use Rattle.schemas.specs.declared.schema.NamedColumn.{NamedColumn}
-use Rattle.schemas.specs.Columns.{Columns, Sound, Same, named_in, id_of, typed, with_type}
+use Rattle.schemas.specs.Columns.{Columns, Sound, named_in, id_of, typed, with_type}
 use Rattle.schemas.specs.Laws.{SameColumnsAreEqual, SameColumnsSameAnswers}
 
 pub same_columns : SameColumnsAreEqual

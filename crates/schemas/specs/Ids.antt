@@ -1,5 +1,5 @@
 -- Equality of ids as a test, an id among others, and ids of which none repeats. Assumes nothing.
-use Rattle.std.specs.Prelude.{◌≡◌, ℕ, ◌<◌, Bool, true, false, ◌||◌, List, [], ◌∷◌, length, ℤ, pos, negsuc, ◌==◌, ◌≢◌, slice_index_or}
+use Rattle.std.specs.Prelude.{ℕ, ◌<◌, Bool, false, ◌||◌, List, [], ◌∷◌, length, ℤ, pos, negsuc, ◌==◌, ◌≢◌, slice_index_or}
 
 abbrev pub same : ℤ → ℤ → Bool
 same (pos a) (pos b) = a == b

@@ -1,5 +1,5 @@
 -- Rows of a table, and the columns that they show. Assumes nothing.
-use Rattle.std.specs.Prelude.{◌≡◌, ℕ, Bool, true, false, cond, List, [], ◌∷◌, ℤ, Some, None, Option}
+use Rattle.std.specs.Prelude.{ℕ, Bool, false, cond, List, [], ◌∷◌, ℤ, Some, None, Option}
 use Rattle.std.specs.Str.{bytes_eq}
 use Rattle.schemas.specs.declared.schema.Column.{Column}
 use Rattle.schemas.specs.Ids.{same}

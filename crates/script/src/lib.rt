@@ -1,4 +1,6 @@
 // A plan script: one command to a line, one answer to a command.
+#![tactic(auto)]
+
 mod answer;
 mod columns;
 mod draft;

@@ -1,4 +1,6 @@
 // Column sheets: a table's columns in bytes.
+#![tactic(auto)]
+
 pub mod sheet;
 #[cfg(test)]
 mod tests;

@@ -1,5 +1,5 @@
 -- A loop over fields, of which what is left gives the answer.
-use Rattle.std.proofs.Common.{◌≡◌, ℕ, ◌+◌, ◌<◌, ◌≤◌, List, ◌∷◌, length, get_or, drop, pos, Ok, Err, Result, sym, refl, subst}
+use Rattle.std.proofs.Common.{ℕ, ◌+◌, ◌<◌, ◌≤◌, List, ◌∷◌, length, get_or, drop, pos, Ok, Err, Result, sym, subst}
 use Rattle.std.proofs.lemmas.List.{at_drop_all, at_drop_more}
 use Rattle.faults.specs.Rules.{FirstBroken, AllKept}
 use Rattle.faults.proofs.Firsts.{broken_before, broken_later, kept_both}

@@ -1,5 +1,5 @@
 -- Orders are equal exactly when their ids and their fields are, as `==` tells of two ids and of two fields.
-use Rattle.std.proofs.Common.{◌≡◌, Bool, true, false, List, Decides, sym, ap, ◌∙◌, subst, arith}
+use Rattle.std.proofs.Common.{◌≡◌, Bool, true, List, Decides, sym, ap, ◌∙◌, subst, arith}
 use Rattle.std.specs.Cmp.Lexicographic.{pointwise, pointwise_decides}
 use Rattle.std.proofs.lemmas.Bool.Decides.{Decides-at, Decides-like, Decides-and, Decides-int_eq}
 use Rattle.transforms.proofs.Equality.{transform_eq-Decides}

@@ -1,5 +1,5 @@
 -- The first broken rule of a text, and that only one fault tells it. Assumes nothing.
-use Rattle.std.proofs.Common.{◌≡◌, ℕ, cond, eqb, List, [], ◌∷◌, ◌++◌, Some, None, Ok, Err, codes, Option, sym, refl, ap, ◌∙◌, subst, inl, inr}
+use Rattle.std.proofs.Common.{◌≡◌, ℕ, cond, eqb, List, ◌++◌, Some, None, Ok, Err, codes, Option, sym, refl, ap, ◌∙◌, subst, inl, inr}
 use Rattle.std.specs.Option.{ok_or}
 use Rattle.faults.specs.Rules.{Rule, rule, FirstBroken, Kept, AllKept}
 use Rattle.faults.proofs.Firsts.{kept, first_number}

@@ -1,5 +1,5 @@
 -- What a transform makes of a type, and what refuses it. Assumes nothing.
-use Rattle.std.specs.Prelude.{◌≡◌, ℕ, cond, List, [], ◌∷◌, Some, None, codes, Option, Result, MatchResult}
+use Rattle.std.specs.Prelude.{◌≡◌, cond, List, [], ◌∷◌, Some, None, codes, Option, Result, MatchResult}
 use Rattle.faults.specs.Told.{Told}
 use Rattle.faults.specs.Rules.{Rule, rule, FirstBroken}
 use Rattle.faults.specs.declared.error.ErrorKind.TheVariants.{DataInvalid}

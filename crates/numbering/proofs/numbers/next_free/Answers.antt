@@ -1,4 +1,4 @@
-use Rattle.std.proofs.Common.{◌≡◌, true, false, map, ℤ, pos, ◌+ℤ◌, Some, Decides, refl, w32, SFits, rules}
+use Rattle.std.proofs.Common.{◌≡◌, true, false, map, pos, ◌+ℤ◌, Some, Decides, refl, w32, SFits, rules}
 use Rattle.std.specs.List.{ContainsAt as Has}
 use Rattle.std.proofs.lemmas.Int.{to_z-of_z}
 use Rattle.std.proofs.lemmas.Bool.Decides.{not_from_Decides}

@@ -1,4 +1,4 @@
-use Rattle.std.proofs.Common.{vec_items, w32, to_z, of_z, rules}
+use Rattle.std.proofs.Common.{vec_items, w32, to_z, of_z}
 use Rattle.schemas.proofs.Distinction.{distinct_after}
 use Rattle.schemas.proofs.selection.Selection.select.Goals as goal
 

@@ -1,5 +1,5 @@
 -- The rules of the id are those of the order, and keep 0 for the unsorted one.
-use Rattle.std.proofs.Common.{Some, vec_items, sym, refl, ap, w64, SFits, rules}
+use Rattle.std.proofs.Common.{Some, vec_items, sym, refl, ap, w64, SFits}
 use Rattle.std.proofs.lemmas.Int.{to_z-of_z}
 use Rattle.sorts.specs.SortRules.{told}
 use Rattle.sorts.proofs.Answered.{at_err, broken_at}
