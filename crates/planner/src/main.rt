@@ -7,6 +7,7 @@ use script::play::play;
 use std::env;
 use std::fs::File;
 use std::io::BufWriter;
+use std::process::ExitCode;
 
 const HELP: &str = "planner: plays a plan script and prints one answer for each command
 
@@ -25,12 +26,14 @@ Commands of a script:
 The others of the language answer not-yet. docs/SCRIPT.md has the language, and examples/ has scripts to run.";
 
 // The status is 1 where a run fails, and standard error says why.
-fn main(rt: HostRuntime) -> anyhow::Result<()> {
-    let result = run(&rt);
-    if let Err(e) = &result {
-        eprintln!(rt; "planner: {e}")?;
+fn main(rt: HostRuntime) -> anyhow::Result<ExitCode> {
+    match run(&rt) {
+        Ok(()) => Ok(ExitCode::SUCCESS),
+        Err(e) => {
+            eprintln!(rt; "planner: {e}")?;
+            Ok(ExitCode::FAILURE)
+        }
     }
-    result
 }
 
 fn run(rt: &HostRuntime) -> anyhow::Result<()> {
