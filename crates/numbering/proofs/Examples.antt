@@ -1,6 +1,6 @@
 -- The numberings worked by hand, field by field. Assumes nothing.
 use Rattle.std.proofs.Common.{◌≡◌, ℕ, ◌+◌, List, [], ◌∷◌, ◌++◌, get_or, ℤ, pos, negsuc, ◌+ℤ◌, ◌≤ℤ◌, ◌<ℤ◌, Some, None, Option, sym, refl, ◌∙◌, subst, arith, lit<}
-use Rattle.std.specs.List.{ContainsAt as Has, AllByRecursion as All}
+use Rattle.std.specs.List.{ContainsAt as Has, AllByRecursion}
 use Rattle.std.proofs.lemmas.Int.{ints}
 use Rattle.std.proofs.ByRecursion.{all-has, has_get_or}
 use Rattle.numbering.specs.Numbering.{Least, Permitted, Numbered, Numbering}
@@ -17,11 +17,11 @@ module _ (start : ℤ) (draft : List (Option ℤ)) (k : ℕ) (ids : List ℤ) (a
   give : get_or draft k None ≡ None → (top : ℤ) → Tops start ids top → Least (Permitted top draft []) n → Numbered start draft (k + 1) (ids ++ n ∷ [])
   give e top t l = numbered_more start draft k ids a n (λ m q. absurd (none_some m (sym e ∙ q))) (λ _. least_after start ids top t draft n l)
 
-unstated : (draft : List (Option ℤ)) (n : ℤ) → All (λ o. o ≡ Some n → ⊥) draft → Has draft (Some n) → ⊥
+unstated : (draft : List (Option ℤ)) (n : ℤ) → AllByRecursion (λ o. o ≡ Some n → ⊥) draft → Has draft (Some n) → ⊥
 unstated draft n all h = all-has (λ (o : Option ℤ). o ≡ Some n → ⊥) draft (Some n) all h refl
 
 -- the number after `last`, where no field states it
-next : (draft : List (Option ℤ)) (last n : ℤ) → n ≡ last +ℤ pos 1 → n ≤ℤ pos 2147483647 → All (λ o. o ≡ Some n → ⊥) draft → Least (Permitted last draft []) n
+next : (draft : List (Option ℤ)) (last n : ℤ) → n ≡ last +ℤ pos 1 → n ≤ℤ pos 2147483647 → AllByRecursion (λ o. o ≡ Some n → ⊥) draft → Least (Permitted last draft []) n
 next draft last n is fits un = least_free draft last n fits (omega (arith, ints)) (unstated draft n un)
     (λ m a b. absurd (between m a b))
   where
@@ -68,7 +68,7 @@ counts_through_negatives =
     (negsuc 0) refl (negsuc 1) (tops_more (negsuc 2) [] (negsuc 2) (tops_none (negsuc 2)) (negsuc 1))
     (next (None ∷ None ∷ []) (negsuc 1) (negsuc 0) refl (omega (arith, ints)) (none (negsuc 0)))
   where
-    none : (n : ℤ) → All (λ o. o ≡ Some n → ⊥) (None ∷ None ∷ [])
+    none : (n : ℤ) → AllByRecursion (λ o. o ≡ Some n → ⊥) (None ∷ None ∷ [])
     none n = (λ e. none_some n e, (λ e. none_some n e, tt))
 
 pub no_fields_no_ids : NoFieldsNoIds

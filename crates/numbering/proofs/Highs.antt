@@ -2,7 +2,7 @@
 use Rattle.std.proofs.Common.{◌≡◌, ℕ, ◌+◌, ◌<◌, ◌≤◌, List, length, get_or, take, ℤ, pos, ◌≤ℤ◌, sym, subst, arith}
 use lib.Signed.{lt_z}
 use Rattle.std.specs.Int.{int_max}
-use Rattle.std.specs.List.{ContainsAt as Has, AllByRecursion as All}
+use Rattle.std.specs.List.{ContainsAt as Has, AllByRecursion}
 use Rattle.std.proofs.lemmas.Int.{ints, clamps}
 use Rattle.std.proofs.lemmas.Bool.{cond_both}
 use Rattle.std.proofs.lemmas.List.{take_all}
@@ -12,7 +12,7 @@ use Rattle.numbering.specs.Ids.{Highest}
 -- one of the ids, and none of the first k is higher
 pub record HighestOf (ids : List ℤ) (k : ℕ) (id : ℤ) : Type 0 where
   pub one : Has ids id
-  pub top : All (λ x. x ≤ℤ id) (take k ids)
+  pub top : AllByRecursion (λ x. x ≤ℤ id) (take k ids)
 
 pub highest_first : (ids : List ℤ) (id : ℤ) → Has ids id → HighestOf ids 0 id
 highest_first ids id has = record { one = has; top = tt }
@@ -26,7 +26,7 @@ highest_more ids k so id lt h is = record {
 }
 
 pub highest_all : (ids : List ℤ) (k : ℕ) (id : ℤ) → length ids ≤ k → HighestOf ids k id → Highest ids id
-highest_all ids k id le h = record { one = h.one; top = subst (λ (l : List ℤ). All (λ x. x ≤ℤ id) l) (take_all k ids le) h.top }
+highest_all ids k id le h = record { one = h.one; top = subst (λ (l : List ℤ). AllByRecursion (λ x. x ≤ℤ id) l) (take_all k ids le) h.top }
 
 pub highest_unique : (ids : List ℤ) (a b : ℤ) → Highest ids a → Highest ids b → a ≡ b
 highest_unique ids a b h k =

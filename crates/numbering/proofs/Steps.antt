@@ -1,7 +1,7 @@
 -- The steps of the loops that number a draft. Assumes nothing.
 use Rattle.std.proofs.Common.{◌≡◌, ℕ, ◌+◌, ◌<◌, ◌≤◌, List, [], ◌∷◌, ◌++◌, map, length, get_or, take, drop, set, ℤ, pos, ◌+ℤ◌, ◌≤ℤ◌, ◌<ℤ◌, Some, None, Option, sym, refl, ap, ◌∙◌, subst, arith, w32, SFits, below_none, below_more}
 use Rattle.std.specs.Int.{int_max}
-use Rattle.std.specs.List.{ContainsAt as Has, AllByRecursion as All}
+use Rattle.std.specs.List.{ContainsAt as Has, AllByRecursion}
 use Rattle.std.proofs.lemmas.Int.{ints, clamps, by_lt_z}
 use Rattle.std.proofs.lemmas.List.{take-append-le, get_or_append_left, get_or_push, length_push, take_at, take_more_set, drop-set-lt, drop-drop, length-map}
 use Rattle.std.proofs.ByRecursion.{All-push}
@@ -12,13 +12,13 @@ use Rattle.numbering.proofs.Elements.{told_at}
 
 -- top is the greatest of the start and the ids: to be above it is to be above each of them
 abbrev pub Tops : ℤ → List ℤ → ℤ → Type 0
-Tops start ids top = (m : ℤ) → (top <ℤ m → (start <ℤ m) × All (λ x. x <ℤ m) ids) × ((start <ℤ m) × All (λ x. x <ℤ m) ids → top <ℤ m)
+Tops start ids top = (m : ℤ) → (top <ℤ m → (start <ℤ m) × AllByRecursion (λ x. x <ℤ m) ids) × ((start <ℤ m) × AllByRecursion (λ x. x <ℤ m) ids → top <ℤ m)
 
 pub tops_none : (start : ℤ) → Tops start [] start
 tops_none start m = (λ h. (h, tt), λ h. h.0)
 
 -- what holds of each after one more
-all_parts : (P : ℤ → Type 0) (xs : List ℤ) (x : ℤ) → All P (xs ++ x ∷ []) → All P xs × P x
+all_parts : (P : ℤ → Type 0) (xs : List ℤ) (x : ℤ) → AllByRecursion P (xs ++ x ∷ []) → AllByRecursion P xs × P x
 all_parts P [] x a = (tt, a.0)
 all_parts P (y ∷ xs) x a = let r = all_parts P xs x a.1 in ((a.0, r.0), r.1)
 

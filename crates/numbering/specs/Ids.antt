@@ -1,6 +1,6 @@
 -- What is asked of ids that all fields have. Assumes nothing.
 use Rattle.std.specs.Prelude.{◌≡◌, ℕ, ◌+◌, ◌<◌, List, length, ℤ, pos, ◌≤ℤ◌, ◌≢◌, slice_index_or}
-use Rattle.std.specs.List.{ContainsAt as Has, AllByRecursion as All}
+use Rattle.std.specs.List.{ContainsAt as Has, AllByRecursion}
 
 -- the id at place i is 1000 + i
 abbrev pub Sequential : List ℤ → Type 0
@@ -9,7 +9,7 @@ Sequential ids = (i : ℕ) → i < length ids → slice_index_or ids i (pos 0) �
 -- one of the ids, and none is higher
 pub record Highest (ids : List ℤ) (id : ℤ) : Type 0 where
   pub one : Has ids id
-  pub top : All (λ x. x ≤ℤ id) ids
+  pub top : AllByRecursion (λ x. x ≤ℤ id) ids
 
 -- no number stands at two places
 abbrev pub Distinct : List ℤ → Type 0

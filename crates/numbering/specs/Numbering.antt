@@ -1,6 +1,6 @@
 -- Which ids the fields of a draft get. A draft is here what its fields state: `Some n` for the id n, `None` for no id. Assumes nothing.
 use Rattle.std.specs.Prelude.{◌≡◌, ℕ, ◌<◌, List, map, length, get_or, take, ℤ, pos, ◌≤ℤ◌, ◌<ℤ◌, Some, None, Option, ◌≢◌, slice_index_or}
-use Rattle.std.specs.List.{ContainsAt as Has, AllByRecursion as All}
+use Rattle.std.specs.List.{ContainsAt as Has, AllByRecursion}
 
 -- n has the property, and no smaller number has it
 abbrev pub Least : (ℤ → Type 0) → ℤ → Type 0
@@ -10,7 +10,7 @@ Least P n = P n × ((m : ℤ) → P m → n ≤ℤ m)
 pub record Permitted (start : ℤ) (draft : List (Option ℤ)) (earlier : List ℤ) (n : ℤ) : Type 0 where
   pub fits : n ≤ℤ pos 2147483647
   pub past_start : start <ℤ n
-  pub past_earlier : All (λ id. id <ℤ n) earlier
+  pub past_earlier : AllByRecursion (λ id. id <ℤ n) earlier
   pub unstated : Has draft (Some n) → ⊥
 
 -- the ids of the first k fields: what a field states, and at a field that states none its least permitted number

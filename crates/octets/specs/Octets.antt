@@ -1,9 +1,9 @@
 -- Bytes, and what a read or a write at a place of them does. Assumes nothing.
 use Rattle.std.specs.Prelude.{◌≡◌, ℕ, ◌+◌, ◌<◌, ◌≤◌, List, ◌++◌, length, take, drop, Option, MatchOption}
-use Rattle.std.specs.List.{AllByRecursion as All}
+use Rattle.std.specs.List.{AllByRecursion}
 
 abbrev pub Bytes : List ℕ → Type 0
-Bytes bs = All (λ b. b < 256) bs
+Bytes bs = AllByRecursion (λ b. b < 256) bs
 
 -- what is read at a place is the value whose bytes stand there; nothing is read past the end
 abbrev pub ReadAt : {V : Type 0} → ℕ → (V → List ℕ) → List ℕ → ℕ → Option V → Type 0

@@ -2,7 +2,7 @@
 use Rattle.std.proofs.Common.{◌≡◌, ℕ, ◌<◌, ◌≤◌, List, [], ◌∷◌, map, length, get_or, Some, None, sym, ap, ◌∙◌, subst}
 use Rattle.std.proofs.lemmas.List.{length-map, get_or-map}
 use Rattle.std.proofs.lemmas.Option.{slice_get-get_or, slice_get_past}
-use Rattle.std.specs.List.{slice_get, AllByRecursion as All}
+use Rattle.std.specs.List.{slice_get, AllByRecursion}
 use Rattle.names.specs.GoodName.{GoodName}
 use Rattle.names.specs.NameBytes.{name_bytes}
 use Rattle.names.proofs.Good.{held}
@@ -19,6 +19,6 @@ module _ {X Y : Type 0} (f : X → Y) (xs : List X) (i : ℕ) where
   nth_map_past h = sym (slice_get_past (map f xs) i (subst (λ n. n ≤ i) (sym (length-map xs f)) h))
 
 -- a kept name is a good one
-pub good_names : (fs : List UnboundPartitionField) → All (λ f. GoodName f.name) (papers fs)
+pub good_names : (fs : List UnboundPartitionField) → AllByRecursion (λ f. GoodName f.name) (papers fs)
 good_names [] = tt
 good_names (f ∷ fs) = (held (name_bytes f.name) f.name.good, good_names fs)

@@ -1,6 +1,6 @@
 -- Which fields an unbound draft can hold. Assumes nothing.
 use Rattle.std.specs.Prelude.{ℕ, ◌<◌, ◌≤◌, List, length, take, slice_index_or}
-use Rattle.std.specs.List.{AllByRecursion as All}
+use Rattle.std.specs.List.{AllByRecursion}
 use Rattle.faults.specs.Rules.{AllKept}
 use Rattle.names.specs.GoodName.{GoodName}
 use Rattle.partitions.specs.AddRules.{add_rules}
@@ -19,7 +19,7 @@ SameId earlier f = HasStatedId f.id earlier
 -- at most 64 fields with good names, of which no two have one name, are alike on one source, or state one id
 pub record Buildable (fs : List PaperField) : Type 0 where
   pub few : length fs ≤ 64
-  pub good : All (λ f. GoodName f.name) fs
+  pub good : AllByRecursion (λ f. GoodName f.name) fs
   pub names : Apart SameName fs
   pub sources : Apart BothAlike fs
   pub ids : Apart SameId fs

@@ -1,7 +1,7 @@
 -- Whole sheets: their rows are read back, so they are unique, and the test of bytes is exact.
 use Rattle.std.proofs.Common.{◌≡◌, ℕ, zero, suc, ◌+◌, ◌-◌, ◌%◌, ◌^◌, ◌<◌, ◌≤◌, Bool, true, false, ltb, List, [], ◌∷◌, ◌++◌, map, length, get_or, take, drop, Decides, sym, refl, ap, ◌∙◌, subst, ⊎_elim, append_assoc, arith, length-append, take-append-drop}
 use mir.Facts.{sfits_to_z}
-use Rattle.std.specs.List.{flat_map, AllByRecursion as All}
+use Rattle.std.specs.List.{flat_map, AllByRecursion}
 use Rattle.std.specs.Str.{bytes_eq}
 use Rattle.std.proofs.ByRecursion.{All-drop, All-get_or, Decides-by_and}
 use Rattle.std.proofs.lemmas.Slice.Eq.{bytes_eq-Decides}
@@ -67,7 +67,7 @@ sheet_made bs count b long few short c d f =
     )
 
 -- rows are read back, whatever is behind them
-rows_again : (rows : List SheetRow) (rest : List ℕ) → All RowFits rows → rows_at (length rows) (flat_map row_bytes rows ++ rest) ≡ rows
+rows_again : (rows : List SheetRow) (rest : List ℕ) → AllByRecursion RowFits rows → rows_at (length rows) (flat_map row_bytes rows ++ rest) ≡ rows
 unfolding rows_at
 rows_again [] rest each = refl
 rows_again (row ∷ rows) rest each =
@@ -100,7 +100,7 @@ row_fits bs b =
       name = omega (arith, length-take (get_or bs 13 0) (drop 14 bs));
     }
 
-rows_fit : (k : ℕ) (bs : List ℕ) → Bytes bs → All RowFits (rows_at k bs)
+rows_fit : (k : ℕ) (bs : List ℕ) → Bytes bs → AllByRecursion RowFits (rows_at k bs)
 unfolding rows_at
 rows_fit zero bs b = tt
 rows_fit (suc k) bs b = (row_fits bs b, rows_fit k (drop (14 + get_or bs 13 0) bs) (All-drop _ _ bs b))
@@ -187,7 +187,7 @@ sound_holds bs t =
       omega (arith, p.long),
       record {
         is = ap (λ k. take k bs) cut ∙ p.body ∙ ap (flat_map row_bytes) (sym (rows_are bs s.0 s.1));
-        each = subst (All RowFits) (sym (rows_are bs s.0 s.1)) s.1.each;
+        each = subst (AllByRecursion RowFits) (sym (rows_are bs s.0 s.1)) s.1.each;
       },
     )
 

@@ -1,7 +1,7 @@
 -- Column sheets: the bytes of rows, and of a sheet of them. Assumes nothing.
 use Rattle.std.specs.Prelude.{◌≡◌, ℕ, ◌<◌, List, ◌∷◌, ◌++◌, length, ℤ, FitsSigned}
 use Rattle.std.specs.Int.{w32}
-use Rattle.std.specs.List.{flat_map, AllByRecursion as All}
+use Rattle.std.specs.List.{flat_map, AllByRecursion}
 use Rattle.octets.specs.BigEndian.{be2, be_id}
 use Rattle.octets.specs.Octets.{Bytes}
 use Rattle.schemas.specs.declared.schema.Column.{Column}
@@ -30,7 +30,7 @@ sheet_bytes rows = flat_map row_bytes rows ++ (be2 (length rows) ++ be2 (length 
 pub record SheetOf (bytes : List ℕ) (rows : List SheetRow) : Type 0 where
   pub is : bytes ≡ sheet_bytes rows
   pub octets : Bytes bytes
-  pub each : All RowFits rows
+  pub each : AllByRecursion RowFits rows
   pub few : length rows < 65536
   pub short : length (flat_map row_bytes rows) < 65536
 

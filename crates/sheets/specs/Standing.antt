@@ -1,6 +1,6 @@
 -- What stands at the front of bytes: a column, a row, a number of rows. Assumes nothing.
 use Rattle.std.specs.Prelude.{◌≡◌, ℕ, List, ◌∷◌, ◌++◌, length, Option, MatchOption}
-use Rattle.std.specs.List.{flat_map, AllByRecursion as All}
+use Rattle.std.specs.List.{flat_map, AllByRecursion}
 use Rattle.octets.specs.BigEndian.{be8}
 use Rattle.schemas.specs.declared.schema.Column.{Column}
 use Rattle.sheets.specs.TypeCodes.{parameters, Fit, column_bytes}
@@ -30,7 +30,7 @@ ReadsRow bytes r = MatchOption r ((row : SheetRow) (rest : List ℕ) → Begins 
 -- the bytes are those of the rows
 pub record Holds (bytes : List ℕ) (rows : List SheetRow) : Type 0 where
   pub is : bytes ≡ flat_map row_bytes rows
-  pub each : All RowFits rows
+  pub each : AllByRecursion RowFits rows
 
 -- the bytes are so many rows
 pub record Filled (bytes : List ℕ) (count : ℕ) : Type 0 where

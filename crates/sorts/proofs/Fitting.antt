@@ -1,6 +1,6 @@
 -- Fields whose rules are kept fit every schema that shows the same columns.
 use Rattle.std.proofs.Common.{◌≡◌, Bool, true, false, List, [], ◌∷◌, is_some, IsSomeAnd, Some, None, Option, refl, subst}
-use Rattle.std.specs.List.{AllByRecursion as All}
+use Rattle.std.specs.List.{AllByRecursion}
 use Rattle.faults.specs.Rules.{AllKept}
 use Rattle.faults.proofs.Firsts.{kept_parts}
 use Rattle.transforms.specs.Results.{result_of}
@@ -29,9 +29,9 @@ by_source c field (Some source) e known primitive fit =
 fits : (c : Columns) (field : SortField) → AllKept (field_rules c field) → Fits c field
 fits c field k = by_source c field (c.by_id field.source_id) refl (k.0 None) (k.1.0 None) (k.1.1.0 None)
 
-all_fit : (c : Columns) (fields : List SortField) → AllKept (each_field_rules c fields) → All (Fits c) fields
+all_fit : (c : Columns) (fields : List SortField) → AllKept (each_field_rules c fields) → AllByRecursion (Fits c) fields
 all_fit c [] k = tt
 all_fit c (field ∷ fields) k = let p = kept_parts (field_rules c field) (each_field_rules c fields) k in (fits c field p.0, all_fit c fields p.1)
 
-pub fit_on_every : (c : Columns) (fields : List SortField) → AllKept (each_field_rules c fields) → (d : Columns) → Same c d → All (Fits d) fields
-fit_on_every c fields k d s = subst (λ e. All (Fits e) fields) (same_columns c d s) (all_fit c fields k)
+pub fit_on_every : (c : Columns) (fields : List SortField) → AllKept (each_field_rules c fields) → (d : Columns) → Same c d → AllByRecursion (Fits d) fields
+fit_on_every c fields k d s = subst (λ e. AllByRecursion (Fits e) fields) (same_columns c d s) (all_fit c fields k)

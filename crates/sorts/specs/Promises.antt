@@ -1,6 +1,6 @@
 -- What a build promises of every schema that shows the same columns. Assumes nothing.
 use Rattle.std.specs.Prelude.{◌≡◌, true, is_some, Some, Result}
-use Rattle.std.specs.List.{AllByRecursion as All}
+use Rattle.std.specs.List.{AllByRecursion}
 use Rattle.transforms.specs.Results.{result_of}
 use Rattle.schemas.specs.declared.schema.Column.{Column}
 use Rattle.schemas.specs.Columns.{Columns, Same, is_primitive}
@@ -18,7 +18,7 @@ pub record Fits (c : Columns) (field : SortField) : Type 0 where
 
 -- each field of the order fits
 abbrev pub FitOnEverySchemaThatShowsTheSame : Columns → Order → Type 0
-FitOnEverySchemaThatShowsTheSame c order = (d : Columns) → Same c d → All (Fits d) order.fields
+FitOnEverySchemaThatShowsTheSame c order = (d : Columns) → Same c d → AllByRecursion (Fits d) order.fields
 
 -- the answer of a build is the one by the rules of each: a build depends on a schema only through its columns
 abbrev pub SameAnswerOnEverySchemaThatShowsTheSame : Columns → Draft → Result (Unit {0}) SortFault → Type 0
