@@ -2,5 +2,6 @@
 #![tactic(auto)]
 
 pub mod field;
+pub mod recorded;
 pub mod spec;
 pub mod types;
