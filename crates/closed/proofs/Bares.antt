@@ -1,5 +1,5 @@
 -- Fields that are the same but for their ids, and fields whose ids are all stated. Assumes nothing.
-use Rattle.std.proofs.Common.{◌≡◌, ℕ, ◌<◌, List, [], ◌∷◌, map, length, get_or, ℤ, pos, Some, None, Option, sym, refl, ap, ◌∙◌, subst, arith, MatchOption}
+use Rattle.std.proofs.Common.{◌≡◌, ℕ, ◌<◌, List, [], ◌∷◌, map, length, get_or, ℤ, pos, Some, None, Option, sym, refl, ap, ◌∙◌, subst, arith}
 use mathlib.Core.List.{map-map}
 use Rattle.std.proofs.lemmas.List.{length-map, get_or-map}
 use Rattle.transforms.specs.Orders.{Alike}
@@ -10,7 +10,7 @@ use Rattle.numbering.proofs.Options.{some_same}
 use Rattle.partitions.specs.Buildable.{SameName, BothAlike, SameId}
 use Rattle.partitions.specs.Fields.{PaperField, HasStatedId}
 use Rattle.partitions.specs.Places.{Apart}
-use Rattle.closed.specs.Bare.{Bare, bare, bares, stateds}
+use Rattle.closed.specs.Bare.{bare, bares, stateds}
 use Rattle.closed.specs.Opened.{opened, openeds, ids_of}
 use Rattle.closed.specs.declared.field.PartitionField.{PartitionField}
 use Rattle.closed.proofs.Viewed.{same_views_length}

@@ -1,8 +1,8 @@
 -- Closing: the fields that are filled in one by one, and the laws at each way that it can end. Assumes nothing.
-use Rattle.std.proofs.Common.{◌≡◌, ℕ, ◌+◌, ◌<◌, ◌≤◌, List, [], ◌∷◌, ◌++◌, map, length, get_or, take, ℤ, Some, Ok, Err, Option, Result, sym, refl, ap, ◌∙◌, subst, arith}
+use Rattle.std.proofs.Common.{◌≡◌, ℕ, ◌+◌, ◌<◌, ◌≤◌, List, [], ◌∷◌, ◌++◌, map, length, get_or, take, ℤ, Some, Ok, Err, Option, sym, refl, ap, ◌∙◌, subst, arith}
 use mathlib.Core.List.{map-map}
 use Rattle.std.proofs.lemmas.List.{length-map, map_push, map_more}
-use Rattle.numbering.specs.Numbering.{Numbering, Stuck, AllState}
+use Rattle.numbering.specs.Numbering.{Numbering, Stuck}
 use Rattle.numbering.specs.Outcome.{Refused}
 use Rattle.numbering.specs.declared.NumberFault.{NumberFault}
 use Rattle.numbering.specs.declared.NumberFault.TheVariants.{Short, NoNumber}
@@ -11,7 +11,6 @@ use Rattle.partitions.specs.Buildable.{Buildable, SameName, BothAlike, SameId}
 use Rattle.partitions.specs.Fields.{PaperField}
 use Rattle.partitions.specs.Places.{Apart}
 use Rattle.partitions.specs.Views.{paper_field, papers}
-use Rattle.partitions.specs.declared.fault.DraftFault.{DraftFault}
 use Rattle.partitions.specs.declared.fault.DraftFault.TheVariants.{NoNumber as Refusal}
 use Rattle.partitions.specs.declared.field.UnboundPartitionField.{UnboundPartitionField}
 use Rattle.closed.specs.Bare.{Bare, bare, bares, stateds}

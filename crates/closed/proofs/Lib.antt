@@ -1,4 +1,5 @@
 pub mod Viewed
+pub mod Same
 pub mod Bares
 pub mod Held
 pub mod Closings

@@ -1,5 +1,5 @@
 -- What closing a draft's fields answers and leaves, and what follows of it. Assumes nothing.
-use Rattle.std.specs.Prelude.{◌≡◌, ℕ, List, ℤ, Some, Option, Result, MatchResult}
+use Rattle.std.specs.Prelude.{◌≡◌, ℕ, List, ℤ, Some, Result, MatchResult}
 use Rattle.numbering.specs.Numbering.{Numbering, Stuck, AllState}
 use Rattle.partitions.specs.Fields.{PaperField}
 use Rattle.partitions.specs.declared.fault.DraftFault.{DraftFault}

@@ -5,3 +5,5 @@ pub mod Closing
 pub mod Questions
 pub mod TypeFaults
 pub mod Typing
+pub mod Equals
+pub mod EqualLaws

@@ -3,8 +3,8 @@ ghost use Rattle.std.specs.Prelude.{◌≡◌, Decides};
 ghost use Rattle.transforms.specs.declared.transform.Transform.TheVariants.{Void};
 ghost use Rattle.closed.specs.Bare.{bare};
 ghost use Rattle.closed.specs.Opened.{opened};
-ghost use Rattle.std.specs.Cmp.Rules.{comparing};
-ghost use Rattle.std.proofs.Common.{rules};
+ghost use Rattle.closed.specs.Equals.{field_eq};
+ghost use Rattle.closed.specs.EqualLaws.{field_eq_laws};
 
 use names::name::Name;
 use numbering::TellsId;
@@ -36,11 +36,14 @@ impl PartitionField {
 }
 
 impl PartialEq for PartitionField {
-    ghost equals = { λ x y r. Decides r (opened x ≡ opened y) };
+    ghost eq = { field_eq };
 
-    ghost laws = { Prim.search (comparing, rules) };
+    ghost laws = { field_eq_laws };
 
-    fn eq(&self, other: &PartitionField) -> bool {
+    fn eq(&self, other: &PartitionField) -> bool
+        ensures value { result ≡ field_eq self.now other.now }
+        ensures decides { Decides result (opened self.now ≡ opened other.now) }
+    {
         self.field_id == other.field_id && self.is_compatible_with(other)
     }
 }

@@ -1,4 +1,6 @@
 // Closed partition specs: every field has its id.
+#![tactic(auto)]
+
 pub mod field;
 pub mod recorded;
 pub mod spec;

@@ -1,5 +1,5 @@
 -- Fields that keep the rules among themselves, as a batch: what the columns admit is accepted. Assumes nothing.
-use Rattle.std.proofs.Common.{◌≡◌, ℕ, ◌<◌, List, [], ◌∷◌, ◌++◌, map, length, get_or, take, Some, None, Option, sym, refl, ap, ◌∙◌, subst, arith}
+use Rattle.std.proofs.Common.{◌≡◌, ℕ, ◌<◌, List, [], ◌∷◌, ◌++◌, map, length, get_or, take, Some, Option, sym, refl, ap, ◌∙◌, subst, arith}
 use Rattle.std.proofs.ByRecursion.{All-get_or}
 use Rattle.std.proofs.lemmas.List.{take-map, get_or-map, length-map}
 use Rattle.std.specs.List.{AllByRecursion as All}
@@ -16,9 +16,8 @@ use Rattle.drafts.proofs.Batching.{there_kept, there_broken}
 use Rattle.partitions.proofs.Builds.{built}
 use Rattle.partitions.proofs.Ruled.{kept_join, kept_front, kept_back, broken_front, broken_back}
 use Rattle.drafts.specs.BoundAdds.{NotAdmittedAt}
-use Rattle.drafts.specs.Calls.{Step}
 use Rattle.drafts.specs.Laws.{BuildableAndAdmittedIsAccepted}
-use Rattle.drafts.specs.Paper.{Paper, with_fields}
+use Rattle.drafts.specs.Paper.{with_fields}
 use Rattle.drafts.specs.SourceRules.{source_rules, bound_rules, Admitted}
 use Rattle.drafts.proofs.Admitting.{some_field}
 

@@ -1,5 +1,5 @@
 -- A bound add, from what its checks say. Assumes nothing.
-use Rattle.std.proofs.Common.{◌≡◌, List, [], ◌∷◌, ◌++◌, Some, Ok, Err, Option, Result, sym, refl, ap, ◌∙◌, subst}
+use Rattle.std.proofs.Common.{◌≡◌, List, ◌++◌, Some, Ok, Err, Option, Result, sym, refl, ap, ◌∙◌, subst}
 use Rattle.faults.specs.Told.{Told}
 use Rattle.faults.specs.Rules.{Rule, AllKept, FirstBroken}
 use Rattle.names.specs.GoodName.{GoodName}

@@ -1,5 +1,5 @@
 -- The fields of a closed draft on columns: admitted as the draft's are, since only their ids differ. Assumes nothing.
-use Rattle.std.proofs.Common.{◌≡◌, ℕ, true, List, [], ◌∷◌, ◌++◌, is_some, IfOk, Some, None, Ok, Err, Option, Result, sym, refl, ap, ◌∙◌, subst, arith}
+use Rattle.std.proofs.Common.{◌≡◌, ℕ, true, List, [], ◌∷◌, is_some, IfOk, Some, None, Ok, Err, Option, Result, sym, refl, ap, ◌∙◌, subst, arith}
 use Rattle.std.proofs.ByRecursion.{All-weaker}
 use Rattle.std.proofs.lemmas.Bool.{false≢true}
 use Rattle.std.specs.List.{AllByRecursion as All}
@@ -12,7 +12,7 @@ use Rattle.partitions.specs.declared.fault.DraftFault.{DraftFault}
 use Rattle.closed.specs.Bare.{Bare, bare, bares}
 use Rattle.closed.specs.Closed.{paper_closed}
 use Rattle.closed.specs.Closing.{Closes}
-use Rattle.closed.specs.Typing.{made_of, result_on, field_rules, each_rules}
+use Rattle.closed.specs.Typing.{made_of, field_rules, each_rules}
 use Rattle.closed.specs.declared.spec.PartitionSpec.{PartitionSpec}
 use Rattle.closed.proofs.Typings.{result_kept}
 use Rattle.drafts.specs.Closings.{FitWhenClosed}

@@ -2,9 +2,8 @@
 use Rattle.std.proofs.Common.{◌≡◌, List, [], ◌∷◌, map, sym, refl, ap, subst}
 use Rattle.schemas.specs.Columns.{Columns}
 use Rattle.schemas.proofs.Lookups.{same_columns}
-use Rattle.drafts.specs.Calls.{Call, set_spec_id, set_start, add_field, add_named, add_batch, Answer, Step, Ran, SuitsCall, Suits}
+use Rattle.drafts.specs.Calls.{Call, set_spec_id, set_start, add_field, add_named, add_batch, Step, Ran, SuitsCall, Suits}
 use Rattle.drafts.specs.Laws.{made_with, StepByColumns, RunByColumns}
-use Rattle.drafts.specs.Paper.{Paper}
 
 pub same_call : (c : Columns) (call : Call) → SuitsCall c call → call ≡ made_with c call
 same_call c (set_spec_id id) s = refl

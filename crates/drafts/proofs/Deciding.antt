@@ -2,7 +2,7 @@
 use Rattle.std.proofs.Common.{◌≡◌, ℕ, ◌<◌, List, [], ◌∷◌, ◌++◌, get_or, take, IsSomeAnd, Some, None, Option, sym, refl, ap, ◌∙◌, subst, inl, inr, ⊎_elim, arith}
 use Rattle.std.proofs.lemmas.Bool.{cases_order}
 use Rattle.faults.specs.Told.{Told}
-use Rattle.faults.specs.Rules.{Rule, rule, rule_at, AllKept, FirstBroken}
+use Rattle.faults.specs.Rules.{Rule, rule, rule_at, FirstBroken}
 use Rattle.faults.proofs.Firsts.{first_number}
 use Rattle.names.specs.WellFormed.{Front}
 use Rattle.schemas.specs.Columns.{Columns}
@@ -12,7 +12,7 @@ use Rattle.partitions.specs.Fields.{PaperField, Named, AlikeOn}
 use Rattle.partitions.specs.Places.{FirstAt}
 use Rattle.partitions.proofs.Ruled.{not_both}
 use Rattle.drafts.specs.BoundAdds.{on_named, named_rules}
-use Rattle.drafts.specs.Calls.{Call, set_spec_id, set_start, add_field, add_named, add_batch, Answer, Changes, ChangesAll, RanFrom, Step}
+use Rattle.drafts.specs.Calls.{Call, set_spec_id, set_start, add_field, add_named, add_batch, Answer, Changes, ChangesAll, RanFrom}
 use Rattle.drafts.specs.Laws.{SameAnswer, SameAnswers, OneAnswer, OneRun}
 use Rattle.drafts.specs.Paper.{Paper, blank_paper, with_spec_id, with_start, with_fields}
 use Rattle.drafts.specs.SourceRules.{bound_rules}

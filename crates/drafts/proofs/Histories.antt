@@ -1,5 +1,5 @@
 -- Histories of calls: one more call. Assumes nothing.
-use Rattle.std.proofs.Common.{◌≡◌, List, [], ◌∷◌, ◌++◌, sym, refl, subst}
+use Rattle.std.proofs.Common.{List, [], ◌∷◌, ◌++◌, sym, refl, subst}
 use Rattle.drafts.specs.Calls.{Call, Answer, Step, RanFrom, Continues}
 use Rattle.drafts.specs.Paper.{Paper, blank_paper}
 

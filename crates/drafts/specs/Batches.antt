@@ -1,15 +1,12 @@
 -- What a batch of fields does under any rules of an add: all are added, each after those before it, or none. Assumes nothing.
-use Rattle.std.specs.Prelude.{◌≡◌, ℕ, ◌<◌, List, [], ◌∷◌, ◌++◌, map, length, take, Some, None, Option, Result, MatchResult, slice_index_or}
-use Rattle.std.specs.List.{flat_map}
-use Rattle.std.specs.Option.{option_map, option_to_list}
+use Rattle.std.specs.Prelude.{◌≡◌, ℕ, ◌<◌, List, [], ◌∷◌, ◌++◌, length, take, Some, None, Option, Result, MatchResult, slice_index_or}
+use Rattle.std.specs.Option.{option_to_list}
 use Rattle.faults.specs.Told.{Told}
 use Rattle.faults.specs.Rules.{Rule, rule, AllKept, FirstBroken}
-use Rattle.names.specs.Placed.{placed}
 use Rattle.partitions.specs.BatchFaults.{cause_told, batch_told}
-use Rattle.partitions.specs.Fields.{PaperField, field_of}
+use Rattle.partitions.specs.Fields.{PaperField}
 use Rattle.partitions.specs.declared.batch.BatchCause.{BatchCause}
 use Rattle.partitions.specs.declared.batch.BatchFault.{BatchFault}
-use Rattle.partitions.specs.declared.batch.BatchField.{BatchField}
 use Rattle.partitions.specs.Batches.{given}
 
 -- a field that may be missing, after the fields fs: that it is missing breaks the rule of the number, and else the rules

@@ -44,16 +44,16 @@ impl PartitionSpecBuilder {
     }
 
     pub fn with_spec_id(&mut self, spec_id: i32)
-        ensures step { Step (paper self.old) (Call.setSpecId spec_id) None (paper self.new) }
-        ensures history { Continues (paper self.old) (Call.setSpecId spec_id) None (paper self.new) }
+        ensures step { Step (paper self.old) (Call.set_spec_id spec_id) None (paper self.new) }
+        ensures history { Continues (paper self.old) (Call.set_spec_id spec_id) None (paper self.new) }
     {
         self.spec_id = spec_id;
     }
 
     // Ids that are not stated are counted from the next on.
     pub fn with_last_assigned_field_id(&mut self, last_assigned_field_id: i32)
-        ensures step { Step (paper self.old) (Call.setStart last_assigned_field_id) None (paper self.new) }
-        ensures history { Continues (paper self.old) (Call.setStart last_assigned_field_id) None (paper self.new) }
+        ensures step { Step (paper self.old) (Call.set_start last_assigned_field_id) None (paper self.new) }
+        ensures history { Continues (paper self.old) (Call.set_start last_assigned_field_id) None (paper self.new) }
     {
         self.last_assigned_field_id = last_assigned_field_id;
     }
@@ -67,8 +67,8 @@ impl PartitionSpecBuilder {
         name: &[u8],
         transform: Transform,
     ) -> Result<(), DraftFault>
-        ensures step { Step (paper self.old) (Call.addField (S.Schema.columns schema.now) (field_of source_id field_id name.now transform)) (answer_of result) (paper self.new) }
-        ensures history { Continues (paper self.old) (Call.addField (S.Schema.columns schema.now) (field_of source_id field_id name.now transform)) (answer_of result) (paper self.new) }
+        ensures step { Step (paper self.old) (Call.add_field (S.Schema.columns schema.now) (field_of source_id field_id name.now transform)) (answer_of result) (paper self.new) }
+        ensures history { Continues (paper self.old) (Call.add_field (S.Schema.columns schema.now) (field_of source_id field_id name.now transform)) (answer_of result) (paper self.new) }
     {
         let field = FieldView {
             source_id,
@@ -87,8 +87,8 @@ impl PartitionSpecBuilder {
         name: &[u8],
         transform: Transform,
     ) -> Result<(), DraftFault>
-        ensures step { Step (paper self.old) (Call.addNamed (S.Schema.columns schema.now) source_name.now name.now transform) (answer_of result) (paper self.new) }
-        ensures history { Continues (paper self.old) (Call.addNamed (S.Schema.columns schema.now) source_name.now name.now transform) (answer_of result) (paper self.new) }
+        ensures step { Step (paper self.old) (Call.add_named (S.Schema.columns schema.now) source_name.now name.now transform) (answer_of result) (paper self.new) }
+        ensures history { Continues (paper self.old) (Call.add_named (S.Schema.columns schema.now) source_name.now name.now transform) (answer_of result) (paper self.new) }
     {
         add_named(&mut self.fields, schema, source_name, name, transform)
     }
@@ -100,8 +100,8 @@ impl PartitionSpecBuilder {
         fields: &[BatchField],
         area: &[u8],
     ) -> Result<(), BatchFault>
-        ensures step { Step (paper self.old) (Call.addBatch (S.Schema.columns schema.now) (entries area.now fields.now)) (batch_answer_of result) (paper self.new) }
-        ensures history { Continues (paper self.old) (Call.addBatch (S.Schema.columns schema.now) (entries area.now fields.now)) (batch_answer_of result) (paper self.new) }
+        ensures step { Step (paper self.old) (Call.add_batch (S.Schema.columns schema.now) (entries area.now fields.now)) (batch_answer_of result) (paper self.new) }
+        ensures history { Continues (paper self.old) (Call.add_batch (S.Schema.columns schema.now) (entries area.now fields.now)) (batch_answer_of result) (paper self.new) }
     {
         add_all_bound(&mut self.fields, schema, fields, area)
     }

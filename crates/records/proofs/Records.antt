@@ -1,5 +1,5 @@
 -- A trailer put after the entries makes the record. Assumes nothing.
-use Rattle.std.proofs.Common.{◌≡◌, ℕ, ◌+◌, ◌≤◌, List, ◌++◌, length, take, drop, sym, ap, ◌∙◌, append_assoc, arith, length-append}
+use Rattle.std.proofs.Common.{◌≡◌, ℕ, ◌+◌, ◌≤◌, List, ◌++◌, length, take, drop, sym, ap, ◌∙◌, append_assoc, arith}
 use Rattle.std.proofs.lemmas.List.{take_at, drop_at, drop-drop}
 use Rattle.partitions.specs.Fields.{PaperSpec}
 use Rattle.records.specs.Format.{field_bytes, record_bytes, trailer_bytes, Plan, RecordOf}

@@ -1,5 +1,5 @@
 -- Records are unique: the bytes of an entry, of entries and of a trailer tell what they are of. Assumes nothing.
-use Rattle.std.proofs.Common.{◌≡◌, ℕ, ◌+◌, ◌*◌, ◌<◌, ◌≤◌, List, [], ◌∷◌, ◌++◌, map, length, get_or, take, drop, ℤ, Some, None, Option, sym, refl, ap, ◌∙◌, subst, append_assoc, arith, length_append}
+use Rattle.std.proofs.Common.{◌≡◌, ℕ, ◌+◌, ◌*◌, ◌<◌, ◌≤◌, List, [], ◌∷◌, ◌++◌, map, length, get_or, take, drop, ℤ, Some, None, Option, sym, refl, ap, ◌∙◌, append_assoc, arith, length-append}
 use Rattle.std.specs.List.{AllByRecursion as All}
 use Rattle.std.proofs.lemmas.List.{take_at, drop_at, length-map}
 use Rattle.names.specs.GoodName.{GoodName}
@@ -8,7 +8,6 @@ use Rattle.octets.proofs.Numbers.{same_from_be, same_from_be_id}
 use Rattle.partitions.specs.Fields.{PaperField, PaperSpec}
 use Rattle.texts.proofs.Back.{short, same_text}
 use Rattle.transforms.specs.Printed.{printed, Narrow}
-use Rattle.transforms.specs.declared.transform.Transform.{Transform}
 use Rattle.records.specs.Format.{flagged, Entry, entry_bytes, entry_of, body_bytes, trailer_bytes, field_bytes, record_bytes, IdFits, FieldFits, EntryFits, Plan}
 
 -- fronts of one length
@@ -20,7 +19,7 @@ same_fronts a b c d n e = (
 
 -- ends of one length
 pub same_ends : {A : Type 0} (a b c d : List A) → length c ≡ length d → a ++ c ≡ b ++ d → (a ≡ b) × (c ≡ d)
-same_ends a b c d n e = same_fronts a b c d (omega (arith, ap length e, length_append a c, length_append b d)) e
+same_ends a b c d n e = same_fronts a b c d (omega (arith, ap length e, length-append a c, length-append b d)) e
 
 pub length_flagged : (id : Option ℤ) → length (flagged id) ≡ 5
 length_flagged None = refl
@@ -39,7 +38,7 @@ entry_spread e rest = simp append_assoc
 
 pub length_entry : (e : Entry) → length (entry_bytes e) ≡ 11 + length e.name + length e.text
 unfolding entry_bytes
-length_entry e = simp length_append (omega (arith, length_flagged e.id))
+length_entry e = simp length-append (omega (arith, length_flagged e.id))
 
 pub entry_unique : (e f : Entry) (xs ys : List ℕ) → EntryFits e → EntryFits f → entry_bytes e ++ xs ≡ entry_bytes f ++ ys → (e ≡ f) × (xs ≡ ys)
 entry_unique e f xs ys p q h =
@@ -110,12 +109,12 @@ fields_short [] p g = omega arith
 fields_short (f ∷ fs) p g =
     let one = field_short f p.0.width g.0 in
     let rest = fields_short fs p.1 g.1 in
-    omega (arith, length_append (entry_bytes (entry_of f)) (field_bytes fs))
+    omega (arith, length-append (entry_bytes (entry_of f)) (field_bytes fs))
 
 pub length_record : (s : PaperSpec) → length (record_bytes s) ≡ length (field_bytes s.fields) + 8
 unfolding record_bytes
 length_record s =
-    length_append (field_bytes s.fields) _ ∙ ap (λ n. length (field_bytes s.fields) + n) (length_trailer s.spec_id (length s.fields) (length (field_bytes s.fields)))
+    length-append (field_bytes s.fields) _ ∙ ap (λ n. length (field_bytes s.fields) + n) (length_trailer s.spec_id (length s.fields) (length (field_bytes s.fields)))
 
 -- the distance fits its two bytes
 pub distance_fits : (s : PaperSpec) → Plan s → length (field_bytes s.fields) < 65536

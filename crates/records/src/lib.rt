@@ -1,4 +1,6 @@
 // Plan records: an unbound spec as bytes.
+#![tactic(auto)]
+
 mod entry;
 pub mod fault;
 pub mod recorded;

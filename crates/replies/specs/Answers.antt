@@ -1,5 +1,5 @@
 -- What each command of a script answers. Assumes nothing.
-use Rattle.std.specs.Prelude.{◌≡◌, ℕ, Bool, List, Decides, Result, MatchResult}
+use Rattle.std.specs.Prelude.{◌≡◌, ℕ, List, Decides, Result, MatchResult}
 use Rattle.faults.specs.Told.{Told}
 use Rattle.faults.specs.Rules.{FirstBroken}
 use Rattle.faults.specs.Refusals.{told_by}

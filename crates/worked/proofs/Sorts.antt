@@ -1,5 +1,5 @@
 -- The sort orders worked by hand, rule by rule. Assumes nothing.
-use Rattle.std.proofs.Common.{◌≡◌, ℕ, true, false, [], ◌∷◌, ℤ, pos, Some, None, Option, sym, refl, inl, inr, arith, lit<}
+use Rattle.std.proofs.Common.{◌≡◌, ℕ, [], ◌∷◌, pos, Some, None, sym, refl, inl, inr, arith, lit<}
 use Rattle.std.proofs.lemmas.Bool.{false≢true}
 use Rattle.faults.specs.Rules.{AllKept}
 use Rattle.faults.proofs.Firsts.{kept}

@@ -1,9 +1,9 @@
 -- The texts worked by hand, place by place. Assumes nothing.
-use Rattle.std.proofs.Common.{◌≡◌, ℕ, ◌-◌, ◌<◌, List, [], ◌∷◌, ◌++◌, length, get_or, replicate, Ok, Err, codes, Result, sym, refl, ap, ◌∙◌, inl, inr, arith, lit<, lit≤, rules}
+use Rattle.std.proofs.Common.{◌≡◌, ℕ, ◌-◌, ◌<◌, List, [], ◌++◌, length, get_or, replicate, Ok, Err, codes, Result, sym, refl, ap, ◌∙◌, inl, inr, arith, lit<, lit≤, rules}
 use Rattle.std.specs.Fmt.{digits}
 use Rattle.texts.specs.Reading.{LooseReading}
 use Rattle.texts.specs.Steps.{BareReading}
-use Rattle.texts.specs.Width.{Between, SpellsWidth}
+use Rattle.texts.specs.Width.{SpellsWidth}
 use Rattle.texts.specs.Words.{After}
 use Rattle.texts.specs.declared.fault.TextFault.{TextFault}
 use Rattle.texts.specs.declared.fault.TextFault.TheVariants.{WidthMissing, WidthNonDigit, WidthOverflow}

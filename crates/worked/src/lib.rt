@@ -1,4 +1,6 @@
 // Plans worked by hand, against the written rules.
+#![tactic(auto)]
+
 ghost use Rattle.worked.specs.TextExamples.{SixteenInOtherWords, FirstWrongPlaceDecides};
 ghost use Rattle.worked.specs.SortExamples.{ZeroIsTheUnsortedOrder, SortedByWhatIsPrimitive};
 

@@ -2,8 +2,8 @@
 ghost use Rattle.std.specs.Prelude.{◌≡◌, Decides};
 ghost use Rattle.closed.specs.Closed.{paper_closed};
 ghost use Rattle.closed.specs.Questions.{Compatible};
-ghost use Rattle.std.specs.Cmp.Rules.{comparing};
-ghost use Rattle.std.proofs.Common.{rules, arith};
+ghost use Rattle.closed.specs.Equals.{spec_eq};
+ghost use Rattle.closed.specs.EqualLaws.{spec_eq_laws};
 
 use super::PartitionSpec;
 
@@ -27,11 +27,14 @@ impl PartitionSpec {
 }
 
 impl PartialEq for PartitionSpec {
-    ghost equals = { λ x y r. Decides r (paper_closed x ≡ paper_closed y) };
+    ghost eq = { spec_eq };
 
-    ghost laws = { first_of (Prim.search (comparing, rules), Prim.grind (arith, Self.row.coded.inj)) };
+    ghost laws = { spec_eq_laws };
 
-    fn eq(&self, other: &PartitionSpec) -> bool {
+    fn eq(&self, other: &PartitionSpec) -> bool
+        ensures value { result ≡ spec_eq self.now other.now }
+        ensures decides { Decides result (paper_closed self.now ≡ paper_closed other.now) }
+    {
         self.spec_id == other.spec_id && self.fields() == other.fields()
     }
 }

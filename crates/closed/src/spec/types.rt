@@ -61,7 +61,7 @@ fn write_types<S: Schema>(schema: &S, fields: &[PartitionField], into: &mut [Typ
 
 // What the field makes of its source's type.
 fn type_of<S: Schema>(schema: &S, field: &PartitionField) -> Result<Type, TypeFault>
-    ensures* { λ r. ⌜ MatchResult r (λ result. result_on (S.Schema.columns schema.now) (opened field.now) ≡ Some result) (λ fault. FirstBroken (field_rules (S.Schema.columns schema.now) (opened field.now)) (told fault)) ⌝ }
+    ensures { MatchResult result (λ made. result_on (S.Schema.columns schema.now) (opened field.now) ≡ Some made) (λ fault. FirstBroken (field_rules (S.Schema.columns schema.now) (opened field.now)) (told fault)) }
 {
     let Some(column) = schema.field_by_id(field.source_id) else {
         return Err(TypeFault::SourceUnknown);

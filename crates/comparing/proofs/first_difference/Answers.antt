@@ -1,7 +1,7 @@
 -- Where all places up to the longer length have the same, the lists are equal.
 use Rattle.std.proofs.Common.{arith}
 use Rattle.std.proofs.lemmas.List.{length-map}
-use Rattle.partitions.specs.Views.{paper_field, papers}
+use Rattle.partitions.specs.Views.{papers}
 use Rattle.comparing.proofs.Places.{same_from_places}
 use Rattle.comparing.proofs.first_difference.Goals as goal
 

@@ -3,4 +3,4 @@ use Rattle.comparing.proofs.Places.{both}
 use Rattle.comparing.proofs.same_at.Goals as goal
 
 pub returns-in-Some-Some : goal.returns-in-Some-Some
-returns-in-Some-Some c = both _ _ _ _ c.eq.result c.in-Some-Some.ensures c.in-Some-Some.ensures' c.eq.ensures
+returns-in-Some-Some c = both _ _ _ _ c.eq.result c.in-Some-Some.ensures c.in-Some-Some.ensures' c.eq.ensures.decides

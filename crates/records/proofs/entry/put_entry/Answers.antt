@@ -6,11 +6,11 @@ use Rattle.records.proofs.Puts.{cut_is, front_first, front_more, front_all, part
 use Rattle.records.proofs.Unique.{length_entry}
 use Rattle.records.proofs.entry.put_entry.Goals as goal
 
-pub put_name-start-requires : goal.put_name-start-requires
-put_name-start-requires c = omega (arith, length_entry (entry_of (paper_field c.args.field.now)))
+pub put-name_start-requires : goal.put-name_start-requires
+put-name_start-requires c = omega (arith, length_entry (entry_of (paper_field c.args.field.now)))
 
-pub put_name-end-requires : goal.put_name-end-requires
-put_name-end-requires c = omega (arith, length_entry (entry_of (paper_field c.args.field.now)), ap length c.as_bytes.ensures.same)
+pub put-name_end-requires : goal.put-name_end-requires
+put-name_end-requires c = omega (arith, length_entry (entry_of (paper_field c.args.field.now)), ap length c.as_bytes.ensures.same)
 
 pub put-text_start-requires : goal.put-text_start-requires
 put-text_start-requires c = omega (arith, length_entry (entry_of (paper_field c.args.field.now)), ap length c.as_bytes.ensures.same)
@@ -22,8 +22,8 @@ put-requires c =
 
 pub returns : goal.returns
 returns c =
-    let a = front_first _ _ _ _ c.put_name-start.ensures.after c.put_name-start.ensures.end in
-    let b = front_more _ _ _ _ _ _ _ a c.put_name-end.ensures.after c.put_name-end.ensures.end in
+    let a = front_first _ _ _ _ c.put-name_start.ensures.after c.put-name_start.ensures.end in
+    let b = front_more _ _ _ _ _ _ _ a c.put-name_end.ensures.after c.put-name_end.ensures.end in
     let d = front_more _ _ _ _ _ _ _ b c.put-text_start.ensures.after c.put-text_start.ensures.end in
     let e = front_more _ _ _ _ _ _ _ d c.put.ensures.after c.put.ensures.end in
     let text = cut_is c.print_in-text_len.result c.print_in-text_len.new.room _ c.print_in-text_len.ensures.text in

@@ -1,15 +1,15 @@
 -- The ids are numbered apart from the spec, and only then filled in.
-use Rattle.std.proofs.Common.{◌≡◌, ◌≤◌, length, take, replicate, ℤ, pos, Some, vec_items, sym, refl, ap, ◌∙◌, arith, w32, SFits}
+use Rattle.std.proofs.Common.{length, take, replicate, pos, Some, vec_items, refl, ap, arith, w32, SFits}
 use Rattle.std.proofs.lemmas.Int.{to_z-of_z}
 use Rattle.std.proofs.lemmas.List.{length-replicate}
 use Rattle.numbering.specs.Numbering.{Numbering}
 use Rattle.numbering.specs.Outcome.{Refused}
 use Rattle.partitions.specs.Listed.{listed}
 use Rattle.partitions.proofs.Kept.{buildable_listed}
-use Rattle.closed.specs.Closing.{ClosedAs, SomeStuck}
+use Rattle.closed.specs.Closing.{ClosedAs}
 use Rattle.closed.specs.Closed.{paper_closed, closed_ids}
 use Rattle.closed.specs.Opened.{openeds, ids_of}
-use Rattle.closed.proofs.Closings.{Keeps, states, few_fields, closed_as, stuck_draft, laws_closed, laws_stuck, keeps_closed}
+use Rattle.closed.proofs.Closings.{states, few_fields, closed_as, stuck_draft, laws_closed, laws_stuck, keeps_closed}
 use Rattle.closed.proofs.spec.PartitionSpec.close.Goals as goal
 use Rattle.closed.proofs.spec.PartitionSpec.close.Goals.{After-fill}
 
@@ -50,7 +50,7 @@ invariant_of-self c =
     let draft = listed c.args.fields.now in
     let few = few_fields c.as_slice-fields.result.now c.as_slice-fields.ensures.buildable in
     let k = keeps_closed c.args.start draft (openeds (vec_items c.fill.new.closed)) (ids_of (vec_items c.fill.new.closed)) (buildable_listed c.args.fields.now) (filled c) in
-    (omega (arith, c.fill.ensures.len), (c.fill.ensures.cap, (k.names, (k.sources, (k.ids, tt)))))
+    record { few = omega (arith, c.fill.ensures.len); room = c.fill.ensures.cap; names = k.names; sources = k.sources; ids = k.ids }
 
 pub returns : goal.returns
 returns c =

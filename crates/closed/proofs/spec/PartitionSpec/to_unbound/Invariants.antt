@@ -1,6 +1,5 @@
 -- The fields before the index are there.
-use Rattle.std.proofs.Common.{◌≡◌, take, Some}
-use Rattle.partitions.specs.Fields.{PaperSpec}
+use Rattle.std.proofs.Common.{◌≡◌, take}
 use Rattle.partitions.specs.Specs.{paper_spec}
 use Rattle.closed.specs.Closed.{paper_closed}
 use Rattle.closed.specs.Opened.{openeds}

@@ -14,5 +14,5 @@ returns g c =
     let columns = g.S.Schema.columns c.args.schema.now in
     let p = paper c.args.self.now in
     let e = on_named columns c.args.source_name.now c.args.name.now c.args.transform in
-    stepped p _ (Call.addNamed columns c.args.source_name.now c.args.name.now c.args.transform) (answer_of c.add_named.result)
+    stepped p _ (Call.add_named columns c.args.source_name.now c.args.name.now c.args.transform) (answer_of c.add_named.result)
     (changes p (listed c.add_named.new.fields) (named_rules columns p.fields e) (p.fields ++ option_to_list e) c.add_named.result c.add_named.ensures)

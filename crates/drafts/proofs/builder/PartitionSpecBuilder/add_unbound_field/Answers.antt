@@ -18,4 +18,4 @@ returns g c =
     let p = paper c.args.self.now in
     let f = field_of c.args.source_id c.args.field_id c.args.name.now c.args.transform in
     let a : AddsBound columns p.fields (field_of c.args.source_id c.args.field_id c.args.name.now c.args.transform) c.add_bound.result (listed c.add_bound.new.fields) = simp to_z-of_z at c.add_bound.ensures in
-    stepped p _ (Call.addField columns f) (answer_of c.add_bound.result) (changes p (listed c.add_bound.new.fields) (bound_rules columns p.fields f) (p.fields ++ f ∷ []) c.add_bound.result a)
+    stepped p _ (Call.add_field columns f) (answer_of c.add_bound.result) (changes p (listed c.add_bound.new.fields) (bound_rules columns p.fields f) (p.fields ++ f ∷ []) c.add_bound.result a)

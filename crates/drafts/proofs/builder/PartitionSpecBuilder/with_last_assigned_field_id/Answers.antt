@@ -1,5 +1,5 @@
 -- The start is what was passed, and the rest stays.
-use Rattle.std.proofs.Common.{◌≡◌, None, w32, SFits}
+use Rattle.std.proofs.Common.{None, w32, SFits}
 use Rattle.std.proofs.lemmas.Int.{to_z-of_z}
 use Rattle.drafts.specs.Calls.{Call}
 use Rattle.drafts.specs.Drafts.{paper}
@@ -11,4 +11,4 @@ pub returns : goal.returns
 returns c =
     let fits : SFits w32 c.args.last_assigned_field_id = c.ranges.last_assigned_field_id in
     let p = paper c.args.self.now in
-    stepped p _ (Call.setStart c.args.last_assigned_field_id) None (tt, λ i. with_start (to_z-of_z w32 c.args.last_assigned_field_id fits i) p)
+    stepped p _ (Call.set_start c.args.last_assigned_field_id) None (tt, λ i. with_start (to_z-of_z w32 c.args.last_assigned_field_id fits i) p)

@@ -1,0 +1,35 @@
+-- `==` of fields and of slices of them, compared on paper. Assumes nothing.
+use Rattle.std.proofs.Common.{◌≡◌, Bool, List, Some, Decides, sym, ap, ◌∙◌}
+use Rattle.std.specs.Cmp.Lexicographic.{pointwise, bytes_decides}
+use Rattle.std.proofs.lemmas.Bool.Decides.{same_from_decides, Decides-like, Decides-and, Decides-int_eq}
+use Rattle.names.specs.NameBytes.{name_bytes}
+use Rattle.transforms.proofs.Equality.{transform_eq-Decides}
+use Rattle.numbering.proofs.Options.{some_same}
+use Rattle.partitions.proofs.Same.{views, views_decided}
+use Rattle.partitions.specs.Fields.{PaperField}
+use Rattle.closed.specs.Bare.{Bare, bare}
+use Rattle.closed.specs.Equals.{bare_eq, field_eq}
+use Rattle.closed.specs.Opened.{opened, openeds}
+use Rattle.closed.specs.declared.field.PartitionField.{PartitionField}
+
+pub bare_eq-Decides : (x y : PartitionField) → Decides (bare_eq x y) (bare (opened x) ≡ bare (opened y))
+bare_eq-Decides x y =
+    Decides-like _
+    (λ (p : (x.source_id ≡ y.source_id) × ((name_bytes x.name ≡ name_bytes y.name) × (x.transform ≡ y.transform))) i.
+    record { source = p.0 i; name = p.1.0 i; transform = p.1.1 i })
+    (λ e. (ap (λ (f : Bare). f.source) e, (ap (λ (f : Bare). f.name) e, ap (λ (f : Bare). f.transform) e)))
+    (Decides-and _ _ (Decides-int_eq x.source_id y.source_id)
+    (Decides-and _ _ (bytes_decides (name_bytes x.name) (name_bytes y.name)) (transform_eq-Decides x.transform y.transform)))
+
+pub field_eq-Decides : (x y : PartitionField) → Decides (field_eq x y) (opened x ≡ opened y)
+field_eq-Decides x y =
+    Decides-like _
+    (λ (p : (x.field_id ≡ y.field_id) × (bare (opened x) ≡ bare (opened y))) i.
+    record { source = (p.1 i).source; id = Some (p.0 i); name = (p.1 i).name; transform = (p.1 i).transform })
+    (λ e. (some_same _ _ (ap (λ (f : PaperField). f.id) e), ap bare e))
+    (Decides-and _ _ (Decides-int_eq x.field_id y.field_id) (bare_eq-Decides x y))
+
+-- what the fields compute to is told by their fields on paper
+pub fields_computed : (xs ys us vs : List PartitionField) (r : Bool) → openeds xs ≡ openeds us → openeds ys ≡ openeds vs → r ≡ pointwise field_eq xs ys → r ≡ pointwise field_eq us vs
+fields_computed xs ys us vs r p q e =
+    same_from_decides r _ (Decides-like r (λ h. sym p ∙ h ∙ q) (λ h. p ∙ h ∙ sym q) (views_decided opened field_eq field_eq-Decides xs ys r e)) (views opened field_eq field_eq-Decides us vs)
