@@ -1,7 +1,7 @@
 -- The entries of the first fields: their bytes, how long they are, and how they are put one after another. Assumes nothing.
 use Rattle.std.proofs.Common.{◌≡◌, ℕ, ◌+◌, ◌-◌, ◌*◌, ◌<◌, ◌≤◌, List, [], ◌∷◌, ◌++◌, map, length, get_or, take, drop, Some, sym, refl, ap, ◌∙◌, subst, append_assoc, append-nil, arith, length-append, length-drop, take-append-drop}
 use borrow.Rule.Slice.PartMut.{put_mid, post_of}
-use Rattle.std.specs.List.{slice_get, flat_map, AllByRecursion as All}
+use Rattle.std.specs.List.{slice_get, flat_map, AllByRecursion}
 use Rattle.std.proofs.ByRecursion.{All-push}
 use Rattle.std.proofs.lemmas.List.{map-append, take_more, take_at, drop_at, drop-drop, drop_all, take_rest, take_all}
 use Rattle.std.proofs.lemmas.Option.{slice_get-get_or}
@@ -38,8 +38,8 @@ module _ (fs : List PaperField) (i : ℕ) (f : PaperField) (inside : i < length 
   pub length_more : length (field_bytes (take (i + 1) fs)) ≡ length (field_bytes (take i fs)) + length (entry_bytes (entry_of f))
   length_more = ap length bytes_more ∙ length-append (field_bytes (take i fs)) (entry_bytes (entry_of f))
 
-  pub fits_more : All FieldFits (take i fs) → FieldFits f → All FieldFits (take (i + 1) fs)
-  fits_more each here = subst (All FieldFits) (sym one_more) (All-push FieldFits (take i fs) f each here)
+  pub fits_more : AllByRecursion FieldFits (take i fs) → FieldFits f → AllByRecursion FieldFits (take (i + 1) fs)
+  fits_more each here = subst (AllByRecursion FieldFits) (sym one_more) (All-push FieldFits (take i fs) f each here)
 
 pub front_within : (fs : List PaperField) (i : ℕ) → length (field_bytes (take i fs)) ≤ length (field_bytes fs)
 front_within fs i =
@@ -50,7 +50,7 @@ front_within fs i =
 pub record Measured (fs : List PaperField) (i len : ℕ) : Type 0 where
   pub is : len ≡ length (field_bytes (take i fs))
   pub short : len ≤ 159 * i
-  pub each : All FieldFits (take i fs)
+  pub each : AllByRecursion FieldFits (take i fs)
 
 pub measured_none : (fs : List PaperField) → Measured fs 0 0
 measured_none fs = record { is = ap length (sym (fields_none fs)); short = omega arith; each = tt }
@@ -63,10 +63,10 @@ module _ (fs : List PaperField) (i len n : ℕ) (f : PaperField) (inside : i < l
     each = fits_more fs i f inside next m.each fits;
   }
 
-pub measured_all : (fs : List PaperField) (i len : ℕ) → length fs ≤ i → Measured fs i len → (len ≡ length (field_bytes fs)) × All FieldFits fs
+pub measured_all : (fs : List PaperField) (i len : ℕ) → length fs ≤ i → Measured fs i len → (len ≡ length (field_bytes fs)) × AllByRecursion FieldFits fs
 measured_all fs i len past m =
     let all = take_all i fs past in
-    (m.is ∙ ap (λ gs. length (field_bytes gs)) all, subst (All FieldFits) all m.each)
+    (m.is ∙ ap (λ gs. length (field_bytes gs)) all, subst (AllByRecursion FieldFits) all m.each)
 
 -- the first fields are put at the front of what the output was
 pub record Laid (fs : List PaperField) (i at : ℕ) (was out : List ℕ) : Type 0 where

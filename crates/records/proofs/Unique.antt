@@ -1,6 +1,6 @@
 -- Records are unique: the bytes of an entry, of entries and of a trailer tell what they are of. Assumes nothing.
 use Rattle.std.proofs.Common.{◌≡◌, ℕ, ◌+◌, ◌*◌, ◌<◌, ◌≤◌, List, [], ◌∷◌, ◌++◌, map, length, get_or, take, drop, ℤ, Some, None, Option, sym, refl, ap, ◌∙◌, append_assoc, arith, length-append}
-use Rattle.std.specs.List.{AllByRecursion as All}
+use Rattle.std.specs.List.{AllByRecursion}
 use Rattle.std.proofs.lemmas.List.{take_at, drop_at, length-map}
 use Rattle.names.specs.GoodName.{GoodName}
 use Rattle.octets.specs.BigEndian.{be2, be_id}
@@ -55,7 +55,7 @@ body_more : (e : Entry) (es : List Entry) (xs : List ℕ) → body_bytes (e ∷ 
 unfolding body_bytes
 body_more e es xs = append_assoc (entry_bytes e) (body_bytes es) xs
 
-pub body_unique : (es fs : List Entry) (xs ys : List ℕ) → All EntryFits es → All EntryFits fs → length es ≡ length fs → body_bytes es ++ xs ≡ body_bytes fs ++ ys → (es ≡ fs) × (xs ≡ ys)
+pub body_unique : (es fs : List Entry) (xs ys : List ℕ) → AllByRecursion EntryFits es → AllByRecursion EntryFits fs → length es ≡ length fs → body_bytes es ++ xs ≡ body_bytes fs ++ ys → (es ≡ fs) × (xs ≡ ys)
 unfolding body_bytes
 body_unique [] [] xs ys p q n h = (refl, h)
 body_unique [] (f ∷ fs) xs ys p q n h = absurd (omega arith)
@@ -79,7 +79,7 @@ field_entry_fits f p g =
     let text = short f.transform p.width in
     record { source = p.source; id = p.id; some = omega (arith, g.some); short = g.short; text = omega arith }
 
-pub fields_entry_fits : (fs : List PaperField) → All FieldFits fs → All (λ f. GoodName f.name) fs → All EntryFits (map entry_of fs)
+pub fields_entry_fits : (fs : List PaperField) → AllByRecursion FieldFits fs → AllByRecursion (λ f. GoodName f.name) fs → AllByRecursion EntryFits (map entry_of fs)
 fields_entry_fits [] p g = tt
 fields_entry_fits (f ∷ fs) p g = (field_entry_fits f p.0 g.0, fields_entry_fits fs p.1 g.1)
 
@@ -89,7 +89,7 @@ entry_of_unique f g p q e =
     let t : f.transform ≡ g.transform = (same_text (printed f.transform) (printed g.transform) f.transform g.transform (p, refl) (q, refl)).0 (ap (λ (x : Entry). x.text) e) in
     λ i. record { source = (e i).source; id = (e i).id; name = (e i).name; transform = t i }
 
-pub entries_unique : (fs gs : List PaperField) → All FieldFits fs → All FieldFits gs → map entry_of fs ≡ map entry_of gs → fs ≡ gs
+pub entries_unique : (fs gs : List PaperField) → AllByRecursion FieldFits fs → AllByRecursion FieldFits gs → map entry_of fs ≡ map entry_of gs → fs ≡ gs
 entries_unique [] [] p q e = refl
 entries_unique [] (g ∷ gs) p q e = let n : ◌≡◌ {A = ℕ} _ _ = ap length e in absurd (omega arith)
 entries_unique (f ∷ fs) [] p q e = let n : ◌≡◌ {A = ℕ} _ _ = ap length e in absurd (omega arith)
@@ -103,7 +103,7 @@ entries_unique (f ∷ fs) (g ∷ gs) p q e =
 pub field_short : (f : PaperField) → Narrow f.transform → GoodName f.name → length (entry_bytes (entry_of f)) ≤ 159
 field_short f p g = omega (arith, length_entry (entry_of f), short f.transform p, g.short)
 
-pub fields_short : (fs : List PaperField) → All FieldFits fs → All (λ f. GoodName f.name) fs → length (field_bytes fs) ≤ 159 * length fs
+pub fields_short : (fs : List PaperField) → AllByRecursion FieldFits fs → AllByRecursion (λ f. GoodName f.name) fs → length (field_bytes fs) ≤ 159 * length fs
 unfolding body_bytes
 fields_short [] p g = omega arith
 fields_short (f ∷ fs) p g =

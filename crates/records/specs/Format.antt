@@ -1,7 +1,7 @@
 -- Plan records: the bytes of an unbound spec. Assumes nothing.
 use Rattle.std.specs.Prelude.{◌≡◌, ℕ, ◌<◌, ◌≤◌, List, ◌∷◌, ◌++◌, map, length, ℤ, IfSome, Some, None, Option, FitsSigned}
 use Rattle.std.specs.Int.{w32}
-use Rattle.std.specs.List.{flat_map, AllByRecursion as All}
+use Rattle.std.specs.List.{flat_map, AllByRecursion}
 use Rattle.octets.specs.BigEndian.{be2, be4, be_id}
 use Rattle.transforms.specs.Printed.{printed, Narrow}
 use Rattle.partitions.specs.Buildable.{Buildable}
@@ -61,7 +61,7 @@ pub record EntryFits (e : Entry) : Type 0 where
 -- a spec that an unbound draft can build
 pub record Plan (s : PaperSpec) : Type 0 where
   pub id : IdFits s.spec_id
-  pub each : All FieldFits s.fields
+  pub each : AllByRecursion FieldFits s.fields
   pub buildable : Buildable s.fields
 
 -- the bytes are the record of the spec

@@ -1,6 +1,6 @@
 // The writing of records.
 ghost use Rattle.std.specs.Prelude.{◌≡◌, ◌+◌, ◌*◌, ◌≤◌, ◌++◌, length, take, drop, IfOk};
-ghost use Rattle.std.specs.List.{AllByRecursion as All};
+ghost use Rattle.std.specs.List.{AllByRecursion};
 ghost use Rattle.partitions.specs.Buildable.{Buildable};
 ghost use Rattle.records.specs.Format.{trailer_bytes, field_bytes, record_bytes, IdFits, FieldFits, RecordOf};
 ghost use Rattle.records.specs.SameRecord.{SameRecordExactlyWhenEqual};
@@ -64,7 +64,7 @@ fn trailer_of<R: Recorded>(plan: &R, distance: u16) -> [u8; 8]
 fn body_len<R: Recorded>(plan: &R) -> usize
     ensures len { result ≡ length (field_bytes (R.Recorded.plan plan.now).fields) }
     ensures short { result ≤ 159 * 64 }
-    ensures each { All FieldFits (R.Recorded.plan plan.now).fields }
+    ensures each { AllByRecursion FieldFits (R.Recorded.plan plan.now).fields }
     ensures buildable { Buildable (R.Recorded.plan plan.now).fields }
 {
     let mut len = 0;
