@@ -1,5 +1,5 @@
 -- `==` of fields and of slices of them, compared by a view of them. Assumes nothing.
-use Rattle.std.proofs.Common.{◌≡◌, Bool, List, [], ◌∷◌, map, ℤ, Some, None, Decides, sym, refl, ap, ◌∙◌}
+use Rattle.std.proofs.Common.{◌≡◌, Bool, List, [], ◌∷◌, map, ℤ, Some, None, vec_items, Decides, sym, refl, ap, ◌∙◌}
 use Rattle.std.specs.Cmp.Lexicographic.{pointwise, bytes_decides}
 use Rattle.std.specs.Option.{option_eq}
 use Rattle.std.specs.Ordering.{int_eq}
@@ -8,9 +8,11 @@ use Rattle.std.proofs.lemmas.Bool.{false≢true}
 use Rattle.std.proofs.lemmas.Bool.Decides.{same_from_decides, Decides-at, Decides-like, Decides-and, Decides-int_eq}
 use Rattle.names.specs.NameBytes.{name_bytes}
 use Rattle.transforms.proofs.Equality.{transform_eq-Decides}
-use Rattle.partitions.specs.Equals.{field_eq}
+use Rattle.partitions.specs.Equals.{field_eq, spec_eq}
 use Rattle.partitions.specs.Fields.{PaperField, PaperSpec}
 use Rattle.partitions.specs.Views.{paper_field, papers}
+use Rattle.partitions.specs.Specs.{paper_spec}
+use Rattle.partitions.specs.declared.spec.UnboundPartitionSpec.{UnboundPartitionSpec}
 use Rattle.partitions.specs.declared.field.UnboundPartitionField.{UnboundPartitionField}
 
 module _ {X Y : Type 0} (f : X → Y) (E : X → X → Bool) (each : (x y : X) → Decides (E x y) (f x ≡ f y)) where
@@ -54,3 +56,10 @@ specs_decided x y fs gs r i p q d =
 pub fields_computed : (xs ys us vs : List UnboundPartitionField) (r : Bool) → papers xs ≡ papers us → papers ys ≡ papers vs → r ≡ pointwise field_eq xs ys → r ≡ pointwise field_eq us vs
 fields_computed xs ys us vs r p q e =
     same_from_decides r _ (Decides-like r (λ h. sym p ∙ h ∙ q) (λ h. p ∙ h ∙ sym q) (views_decided paper_field field_eq field_eq-Decides xs ys r e)) (views paper_field field_eq field_eq-Decides us vs)
+
+pub spec_eq-Decides : (x y : UnboundPartitionSpec) → Decides (spec_eq x y) (paper_spec x ≡ paper_spec y)
+spec_eq-Decides x y =
+    Decides-like _
+    (λ (p : (x.spec_id ≡ y.spec_id) × (papers (vec_items x.fields.fields) ≡ papers (vec_items y.fields.fields))) i. record { spec_id = p.0 i; fields = p.1 i })
+    (λ e. (ap (λ (s : PaperSpec). s.spec_id) e, ap (λ (s : PaperSpec). s.fields) e))
+    (Decides-and _ _ (maybe_ids x.spec_id y.spec_id) (views paper_field field_eq field_eq-Decides (vec_items x.fields.fields) (vec_items y.fields.fields)))

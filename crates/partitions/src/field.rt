@@ -2,7 +2,7 @@
 ghost use Rattle.std.specs.Prelude.{◌≡◌, Decides};
 ghost use Rattle.partitions.specs.Fields.{Named, AlikeOn, HasId};
 ghost use Rattle.partitions.specs.Views.{paper_field, seen};
-ghost use Rattle.partitions.specs.Equals.{field_eq};
+ghost use Rattle.partitions.specs.Equals.{field_eq, FieldsAreEqualExactlyWhenTheSame};
 ghost use Rattle.partitions.specs.EqualLaws.{field_eq_laws};
 
 use names::name::Name;
@@ -68,6 +68,7 @@ impl PartialEq for UnboundPartitionField {
     fn eq(&self, other: &UnboundPartitionField) -> bool
         ensures value { result ≡ field_eq self.now other.now }
         ensures decides { Decides result (paper_field self.now ≡ paper_field other.now) }
+        ensures exactly { FieldsAreEqualExactlyWhenTheSame }
     {
         self.source_id == other.source_id
             && self.field_id == other.field_id

@@ -6,7 +6,7 @@ ghost use Rattle.partitions.specs.Fields.{field_of};
 ghost use Rattle.partitions.specs.Listed.{listed};
 ghost use Rattle.partitions.specs.Specs.{paper_spec, blank};
 ghost use Rattle.partitions.specs.Views.{papers};
-ghost use Rattle.partitions.specs.Equals.{spec_eq};
+ghost use Rattle.partitions.specs.Equals.{spec_eq, SpecsAreEqualExactlyWhenTheSame};
 ghost use Rattle.partitions.specs.EqualLaws.{spec_eq_laws};
 
 use crate::fault::DraftFault;
@@ -92,6 +92,7 @@ impl PartialEq for UnboundPartitionSpec {
     fn eq(&self, other: &UnboundPartitionSpec) -> bool
         ensures value { result ≡ spec_eq self.now other.now }
         ensures decides { Decides result (paper_spec self.now ≡ paper_spec other.now) }
+        ensures exactly { SpecsAreEqualExactlyWhenTheSame }
     {
         self.spec_id == other.spec_id && self.fields() == other.fields()
     }

@@ -1,5 +1,5 @@
 -- Orders are equal exactly when their ids and their fields are, as `==` tells of two ids and of two fields.
-use Rattle.std.proofs.Common.{◌≡◌, Bool, true, List, Decides, sym, ap, ◌∙◌, subst, arith}
+use Rattle.std.proofs.Common.{◌≡◌, Bool, true, List, Decides, sym, ap, ◌∙◌, subst, arith, vec_items}
 use Rattle.std.specs.Cmp.Lexicographic.{pointwise, pointwise_decides}
 use Rattle.std.proofs.lemmas.Bool.Decides.{Decides-at, Decides-like, Decides-and, Decides-int_eq}
 use Rattle.transforms.proofs.Equality.{transform_eq-Decides}
@@ -9,7 +9,9 @@ use Rattle.sorts.specs.declared.sort.NullOrder.{NullOrder}
 use Rattle.sorts.specs.contracts.sort.SortFieldPartialEq.TheImpl.{ghosts as field}
 use Rattle.sorts.specs.contracts.sort.SortDirectionPartialEq.TheImpl.{ghosts as direction}
 use Rattle.sorts.specs.contracts.sort.NullOrderPartialEq.TheImpl.{ghosts as nulls}
-use Rattle.sorts.specs.Drafts.{Order}
+use Rattle.sorts.specs.declared.sort.SortOrder.{SortOrder}
+use Rattle.sorts.specs.Drafts.{Order, order_of}
+use Rattle.sorts.specs.Equals.{order_eq}
 
 direction_same : (x y : SortDirection) → direction.eq x y ≡ true → x ≡ y
 direction_same x y e = grind arith
@@ -47,3 +49,9 @@ pub order_decides : (x y : Order) (read other : List SortField) (r : Bool) → x
 order_decides x y read other r ids p q m =
     let d = fields_decide read other r m in
     (λ t. same_order x y ids (sym p ∙ d.0 t ∙ q), λ e. d.1 (p ∙ ap (λ o. o.fields) e ∙ sym q))
+
+pub orders_decided : (x y : SortOrder) → Decides (order_eq x y) (order_of x ≡ order_of y)
+orders_decided x y =
+    Decides-like _ (λ (p : (x.order_id ≡ y.order_id) × (vec_items x.fields ≡ vec_items y.fields)). same_order (order_of x) (order_of y) p.0 p.1)
+    (λ e. (ap (λ (o : Order). o.id) e, ap (λ (o : Order). o.fields) e))
+    (Decides-and _ _ (Decides-int_eq x.order_id y.order_id) (pointwise_decides field_decides (vec_items x.fields) (vec_items y.fields)))

@@ -4,7 +4,7 @@ ghost use Rattle.std.specs.Cmp.{and_per, on_per, partial_equiv_from_equiv, int_e
 ghost use Rattle.std.specs.Cmp.Lexicographic.{lists_per};
 ghost use Rattle.sorts.specs.contracts.sort.SortFieldPartialEq.TheImpl.Laws.{laws-law};
 ghost use Rattle.sorts.specs.Drafts.{order_of};
-ghost use Rattle.sorts.specs.Equals.{order_eq};
+ghost use Rattle.sorts.specs.Equals.{order_eq, OrdersAreEqualExactlyWhenTheSame};
 
 use super::SortOrder;
 
@@ -16,6 +16,7 @@ impl PartialEq for SortOrder {
     fn eq(&self, other: &SortOrder) -> bool
         ensures value { result ≡ order_eq self.now other.now }
         ensures decides { Decides result (order_of self.now ≡ order_of other.now) }
+        ensures exactly { OrdersAreEqualExactlyWhenTheSame }
     {
         self.order_id == other.order_id && self.fields() == other.fields()
     }
