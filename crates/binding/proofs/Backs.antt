@@ -1,5 +1,5 @@
 -- A closed spec that is bound again. Assumes nothing.
-use Rattle.std.proofs.Common.{◌≡◌, ℕ, List, [], ◌∷◌, ◌++◌, ℤ, IfOk, Some, None, Ok, Err, Option, Result, sym, refl, ap, ◌∙◌, subst, MatchResult}
+use Rattle.std.proofs.Common.{◌≡◌, List, [], ◌∷◌, ◌++◌, ℤ, IfOk, Some, None, Ok, Err, Option, Result, sym, refl, ap, ◌∙◌, subst, MatchResult}
 use Rattle.std.specs.List.{AllByRecursion}
 use Rattle.schemas.specs.Columns.{Columns, Same}
 use Rattle.partitions.specs.BatchFaults.{batch_told}
@@ -12,14 +12,13 @@ use Rattle.closed.specs.Closing.{Closes, ClosingLaws}
 use Rattle.closed.specs.declared.spec.PartitionSpec.{PartitionSpec}
 use Rattle.drafts.specs.Calls.{Call, Answer, Step, Ran, Suits}
 use Rattle.drafts.specs.Closings.{FitWhenClosed}
-use Rattle.drafts.specs.Paper.{Paper, with_fields}
+use Rattle.drafts.specs.Paper.{Paper}
 use Rattle.drafts.specs.SourceRules.{Admitted}
-use Rattle.drafts.specs.Taking.{identified, id_calls, id_answers, taking_batch, taking_calls}
+use Rattle.drafts.specs.Taking.{identified, id_answers, taking_batch, taking_calls}
 use Rattle.drafts.proofs.Accepting.{accepted}
 use Rattle.drafts.proofs.Closings.{all_admitted}
 use Rattle.drafts.proofs.Deciding.{one_answer}
 use Rattle.drafts.proofs.Reached.{admitted_on_every}
-use Rattle.records.specs.Format.{RecordOf}
 use Rattle.records.proofs.Unique.{record_unique}
 use Rattle.binding.specs.Backs.{ClosedFrom, BoundBack, ReadAndBoundBack, FitOnEverySchemaThatShowsTheSame}
 use Rattle.binding.specs.Binds.{drafted, Takes, ClosesTaken, Binds}

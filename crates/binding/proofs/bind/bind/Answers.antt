@@ -3,7 +3,7 @@ use Rattle.std.proofs.Common.{refl}
 use Rattle.partitions.specs.Specs.{paper_spec}
 use Rattle.partitions.proofs.Kept.{buildable_listed}
 use Rattle.drafts.specs.Drafts.{paper}
-use Rattle.binding.proofs.Backs.{Promised, batch_refused, closed, not_closed}
+use Rattle.binding.proofs.Backs.{batch_refused, closed, not_closed}
 use Rattle.binding.proofs.bind.bind.Goals as goal
 
 pub returns-in-Err : goal.returns-in-Err
