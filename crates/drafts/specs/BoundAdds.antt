@@ -1,7 +1,7 @@
 -- What a bound add does to the fields, and what the check of many fields against a schema answers. Assumes nothing.
 use Rattle.std.specs.Prelude.{◌≡◌, ℕ, ◌<◌, List, [], ◌∷◌, ◌++◌, length, None, Option, Result, MatchResult, slice_index_or}
 use Rattle.std.specs.Option.{option_map, option_to_list}
-use Rattle.std.specs.List.{AllByRecursion as All}
+use Rattle.std.specs.List.{AllByRecursion}
 use Rattle.faults.specs.Rules.{Rule, AllKept, FirstBroken}
 use Rattle.faults.specs.Told.{Told}
 use Rattle.transforms.specs.declared.transform.Transform.{Transform}
@@ -40,4 +40,4 @@ pub record NotAdmittedAt (c : Columns) (fs : List PaperField) (i : ℕ) (t : Tol
 
 -- the columns admit every field, or one is told that they do not
 abbrev pub AdmitsAll : Columns → List PaperField → Result (Unit {0}) BatchFault → Type 0
-AdmitsAll c fs r = MatchResult r (λ _. All (Admitted c) fs) (λ fault. NotAdmittedAt c fs fault.index (batch_told fault))
+AdmitsAll c fs r = MatchResult r (λ _. AllByRecursion (Admitted c) fs) (λ fault. NotAdmittedAt c fs fault.index (batch_told fault))

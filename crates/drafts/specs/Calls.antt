@@ -1,7 +1,7 @@
 -- The calls on a draft, what each answers and leaves, and whole histories of calls. Assumes nothing.
 use Rattle.std.specs.Prelude.{◌≡◌, ℕ, List, [], ◌∷◌, ◌++◌, ℤ, IsSomeAnd, None, Option, MatchOption}
 use Rattle.std.specs.Option.{option_to_list}
-use Rattle.std.specs.List.{AllByRecursion as All}
+use Rattle.std.specs.List.{AllByRecursion}
 use Rattle.faults.specs.Rules.{Rule, AllKept, FirstBroken}
 use Rattle.faults.specs.Told.{Told}
 use Rattle.transforms.specs.declared.transform.Transform.{Transform}
@@ -70,4 +70,4 @@ SuitsCall c (add_named d source name transform) = Same c d
 SuitsCall c (add_batch d es) = Same c d
 
 abbrev pub Suits : Columns → List Call → Type 0
-Suits c calls = All (SuitsCall c) calls
+Suits c calls = AllByRecursion (SuitsCall c) calls

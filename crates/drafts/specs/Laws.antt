@@ -1,6 +1,6 @@
 -- Laws of drafts over every history of calls. Assumes nothing.
 use Rattle.std.specs.Prelude.{◌≡◌, true, false, List, [], ◌∷◌, map, is_some, Some, None, ◌≢◌}
-use Rattle.std.specs.List.{AllByRecursion as All}
+use Rattle.std.specs.List.{AllByRecursion}
 use Rattle.transforms.specs.Results.{result_of}
 use Rattle.transforms.specs.declared.transform.Transform.TheVariants.{Void}
 use Rattle.schemas.specs.Columns.{Columns, is_primitive}
@@ -43,7 +43,7 @@ pub record Fits (c : Columns) (f : PaperField) : Type 0 where
 
 -- the columns admit each field, and so each fits
 abbrev pub AllFit : Columns → List PaperField → Type 0
-AllFit c fs = All (Admitted c) fs × All (Fits c) fs
+AllFit c fs = AllByRecursion (Admitted c) fs × AllByRecursion (Fits c) fs
 
 -- the draft's fields fit on every schema that shows the same columns as each that was passed
 abbrev pub FitOnEverySuitingSchema : Paper → Type 0
@@ -71,5 +71,5 @@ RunByColumns = (c : Columns) (calls : List Call) (answers : List Answer) (p : Pa
 -- fields that an unbound draft can hold, and that the columns admit, are accepted as a batch by a draft with no fields
 abbrev pub BuildableAndAdmittedIsAccepted : Type 0
 BuildableAndAdmittedIsAccepted =
-    (c : Columns) (p : Paper) (fs : List PaperField) → p.fields ≡ [] → Buildable fs → All (Admitted c) fs
+    (c : Columns) (p : Paper) (fs : List PaperField) → p.fields ≡ [] → Buildable fs → AllByRecursion (Admitted c) fs
     → Step p (add_batch c (map Some fs)) None (with_fields fs p)
