@@ -1,6 +1,6 @@
 -- A closed spec that is bound again. Assumes nothing.
 use Rattle.std.proofs.Common.{◌≡◌, List, [], ◌∷◌, ◌++◌, ℤ, IfOk, Some, None, Ok, Err, Option, Result, sym, refl, ap, ◌∙◌, subst, MatchResult}
-use Rattle.std.specs.List.{AllByRecursion as All}
+use Rattle.std.specs.List.{AllByRecursion}
 use Rattle.schemas.specs.Columns.{Columns, Same}
 use Rattle.partitions.specs.BatchFaults.{batch_told}
 use Rattle.partitions.specs.Buildable.{Buildable}
@@ -31,7 +31,7 @@ no_fields (Some id) = refl
 
 module _ (c : Columns) (s : PaperSpec) (b : Buildable s.fields) (calls : List Call) (answers : List Answer) (from : ClosedFrom calls answers s) (suits : Suits c calls) where
   -- the columns admit the fields, since they admitted the draft's
-  admitted : All (Admitted c) s.fields
+  admitted : AllByRecursion (Admitted c) s.fields
   admitted = all_admitted c s.fields from.draft.fields from.closed.same (admitted_on_every from.draft calls answers from.ran c suits).0
 
   -- so the batch is accepted

@@ -1,7 +1,7 @@
 -- The questions on a closed spec, from its fields in the code to those on paper. Assumes nothing.
 use Rattle.std.proofs.Common.{◌≡◌, ℕ, ◌<◌, ◌≤◌, List, map, length, get_or, take, sym, ap, ◌∙◌, subst, arith}
 use mathlib.Core.List.{map-map}
-use Rattle.std.specs.List.{AllByRecursion as All}
+use Rattle.std.specs.List.{AllByRecursion}
 use Rattle.std.proofs.ByRecursion.{All-get_or, All-map}
 use Rattle.std.proofs.lemmas.List.{length-map, get_or-map, take_all}
 use Rattle.transforms.specs.declared.transform.Transform.TheVariants.{Void}
@@ -22,8 +22,8 @@ module _ (fs : List PartitionField) (gs : List PaperField) (is : openeds fs ≡ 
       let here = All-get_or (λ p. p.transform ≡ Void) (openeds fs) i (opened f) (omega arith) (subst Unpartitioned (sym is) all) in
       n (ap (λ (p : PaperField). p.transform) (opened_at fs i f lt read) ∙ here)
 
-  pub void_all : (i : ℕ) → length fs ≤ i → All (λ f. f.transform ≡ Void) (take i fs) → Unpartitioned gs
-  void_all i le all = subst Unpartitioned is (All-map (λ p. p.transform ≡ Void) opened fs (subst (λ (l : List PartitionField). All (λ f. f.transform ≡ Void) l) (take_all i fs le) all))
+  pub void_all : (i : ℕ) → length fs ≤ i → AllByRecursion (λ f. f.transform ≡ Void) (take i fs) → Unpartitioned gs
+  void_all i le all = subst Unpartitioned is (All-map (λ p. p.transform ≡ Void) opened fs (subst (λ (l : List PartitionField). AllByRecursion (λ f. f.transform ≡ Void) l) (take_all i fs le) all))
 
 abbrev pub rest : PartitionField → Bare
 rest f = bare (opened f)

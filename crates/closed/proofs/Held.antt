@@ -1,6 +1,6 @@
 -- The fields of a closed spec. Assumes nothing.
 use Rattle.std.proofs.Common.{◌≡◌, List, [], ◌∷◌, length, ℤ, Some, None, vec_items, vec_len, Option, sym, ap, ◌∙◌, subst, arith, MatchOption}
-use Rattle.std.specs.List.{AllByRecursion as All}
+use Rattle.std.specs.List.{AllByRecursion}
 use Rattle.std.proofs.lemmas.List.{length-map, nil_from_length}
 use Rattle.names.specs.GoodName.{GoodName}
 use Rattle.names.specs.NameBytes.{name_bytes}
@@ -17,7 +17,7 @@ use Rattle.closed.proofs.Bares.{opened_state, apart_distinct}
 pub length_closed : (s : PartitionSpec) → length (paper_closed s).fields ≡ vec_len s.fields
 length_closed s = length-map (vec_items s.fields) opened ∙ sym s.fields.ok.0
 
-good_names : (fs : List PartitionField) → All (λ f. GoodName f.name) (openeds fs)
+good_names : (fs : List PartitionField) → AllByRecursion (λ f. GoodName f.name) (openeds fs)
 good_names [] = tt
 good_names (f ∷ fs) = (held (name_bytes f.name) f.name.good, good_names fs)
 

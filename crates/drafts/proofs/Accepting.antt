@@ -2,7 +2,7 @@
 use Rattle.std.proofs.Common.{◌≡◌, ℕ, ◌<◌, List, [], ◌∷◌, ◌++◌, map, length, get_or, take, Some, Option, sym, refl, ap, ◌∙◌, subst, arith}
 use Rattle.std.proofs.ByRecursion.{All-get_or}
 use Rattle.std.proofs.lemmas.List.{take-map, get_or-map, length-map}
-use Rattle.std.specs.List.{AllByRecursion as All}
+use Rattle.std.specs.List.{AllByRecursion}
 use Rattle.faults.specs.Told.{Told}
 use Rattle.faults.specs.Rules.{Rule, AllKept, FirstBroken}
 use Rattle.names.specs.NameRules.{name_rules}
@@ -64,7 +64,7 @@ module _ (c : Columns) (fs : List PaperField) (b : Buildable fs) where
   inside : (k : ℕ) → k < length (map Some fs) → k < length fs
   inside k l = subst (λ n. k < n) (length-map fs Some) l
 
-  pub each_kept : All (Admitted c) fs → EachKept (bound_rules c) [] (map Some fs)
+  pub each_kept : AllByRecursion (Admitted c) fs → EachKept (bound_rules c) [] (map Some fs)
   each_kept a k l = kept_here k (inside k l) (All-get_or (Admitted c) fs k some_field (inside k l) a)
 
   pub refused_first : (i : ℕ) (t : Told) → NotAdmittedAt c fs i t → RefusedAt (bound_rules c) [] (map Some fs) i t

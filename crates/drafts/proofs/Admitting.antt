@@ -3,7 +3,7 @@ use Rattle.std.proofs.Common.{◌≡◌, ℕ, ◌+◌, ◌<◌, ◌≤◌, List,
 use Rattle.std.proofs.ByRecursion.{All-from_get_or}
 use Rattle.std.proofs.lemmas.List.{get_or-map, length-map}
 use Rattle.std.proofs.lemmas.Bool.{cases_lt}
-use Rattle.std.specs.List.{AllByRecursion as All}
+use Rattle.std.specs.List.{AllByRecursion}
 use Rattle.faults.specs.Rules.{FirstBroken}
 use Rattle.transforms.specs.declared.transform.Transform.TheVariants.{Void}
 use Rattle.schemas.specs.Columns.{Columns}
@@ -29,10 +29,10 @@ module _ (c : Columns) (fs : List PaperField) where
   pub none_yet : AdmittedBefore c fs 0
   none_yet k d l = absurd (omega arith)
 
-  admitted_below : (n : ℕ) → length fs ≤ n → AdmittedBefore c fs n → All (Admitted c) fs
+  admitted_below : (n : ℕ) → length fs ≤ n → AdmittedBefore c fs n → AllByRecursion (Admitted c) fs
   admitted_below n h b = All-from_get_or (Admitted c) fs some_field (λ k l. b k some_field (omega arith))
 
-pub all_admitted : (c : Columns) (us : List UnboundPartitionField) (n : ℕ) → length us ≤ n → AdmittedBefore c (papers us) n → All (Admitted c) (papers us)
+pub all_admitted : (c : Columns) (us : List UnboundPartitionField) (n : ℕ) → length us ≤ n → AdmittedBefore c (papers us) n → AllByRecursion (Admitted c) (papers us)
 all_admitted c us n h b = admitted_below c (papers us) n (subst (λ m. m ≤ n) (sym (length-map us paper_field)) h) b
 
 -- the field that is read at i, as it is kept and on paper

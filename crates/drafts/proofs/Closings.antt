@@ -2,7 +2,7 @@
 use Rattle.std.proofs.Common.{◌≡◌, ℕ, true, List, [], ◌∷◌, is_some, IfOk, Some, None, Ok, Err, Option, Result, sym, refl, ap, ◌∙◌, subst, arith}
 use Rattle.std.proofs.ByRecursion.{All-weaker}
 use Rattle.std.proofs.lemmas.Bool.{false≢true}
-use Rattle.std.specs.List.{AllByRecursion as All}
+use Rattle.std.specs.List.{AllByRecursion}
 use Rattle.faults.specs.Rules.{AllKept}
 use Rattle.transforms.specs.Results.{result_of}
 use Rattle.schemas.specs.Columns.{Columns}
@@ -33,7 +33,7 @@ module _ (c : Columns) where
   same_admitted : (f g : PaperField) → bare f ≡ bare g → Admitted c g → Admitted c f
   same_admitted f g e a = subst (λ (b : Bare). Admitted c (idless b)) (sym e) a
 
-  pub all_admitted : (xs ys : List PaperField) → bares xs ≡ bares ys → All (Admitted c) ys → All (Admitted c) xs
+  pub all_admitted : (xs ys : List PaperField) → bares xs ≡ bares ys → AllByRecursion (Admitted c) ys → AllByRecursion (Admitted c) xs
   all_admitted [] ys e a = tt
   all_admitted (x ∷ xs) [] e a = let z : ◌≡◌ {A = ℕ} 0 1 = cc in absurd (omega arith)
   all_admitted (x ∷ xs) (y ∷ ys) e a =
@@ -47,7 +47,7 @@ module _ (c : Columns) where
       let r = some_is (result_of f.transform h.source.field_type) h.result in
       result_kept c f r.0 (ap (made_of f.transform) h.found ∙ r.1)
 
-  all_typed : (fs : List PaperField) → All (Fits c) fs → AllKept (each_rules c fs)
+  all_typed : (fs : List PaperField) → AllByRecursion (Fits c) fs → AllKept (each_rules c fs)
   all_typed [] a = tt
   all_typed (f ∷ fs) a = kept_join (field_rules c f) (each_rules c fs) (typed f a.0) (all_typed fs a.1)
 

@@ -3,7 +3,7 @@ use Rattle.std.proofs.Common.{◌≡◌, ℕ, Bool, true, false, List, [], ◌�
 use Rattle.std.proofs.ByRecursion.{All-append, All-push, All-from_get_or, All-weaker}
 use Rattle.std.proofs.lemmas.Bool.{false≢true}
 use Rattle.std.specs.Option.{option_to_list}
-use Rattle.std.specs.List.{AllByRecursion as All}
+use Rattle.std.specs.List.{AllByRecursion}
 use Rattle.faults.specs.Rules.{Rule, AllKept}
 use Rattle.names.specs.NameRules.{name_rules}
 use Rattle.transforms.specs.Results.{result_of}
@@ -30,21 +30,21 @@ pub admitted : (c : Columns) (fs : List PaperField) (f : PaperField) → AllKept
 admitted c fs f k = kept_front (source_rules c f) (last_rules fs f) (kept_back (name_rules f.name ++ used_rules fs f) (source_rules c f ++ last_rules fs f) k)
 
 -- and so is one that may be missing
-entry_admitted : (c : Columns) (n : ℕ) (fs : List PaperField) (e : Option PaperField) → AllKept (rules_unless_none (bound_rules c) n fs e) → All (Admitted c) (option_to_list e)
+entry_admitted : (c : Columns) (n : ℕ) (fs : List PaperField) (e : Option PaperField) → AllKept (rules_unless_none (bound_rules c) n fs e) → AllByRecursion (Admitted c) (option_to_list e)
 entry_admitted c n fs None k = tt
 entry_admitted c n fs (Some f) k = (admitted c fs f k.1, tt)
 
-all_given : (P : PaperField → Type 0) (es : List (Option PaperField)) → All (λ e. All P (option_to_list e)) es → All P (given es)
+all_given : (P : PaperField → Type 0) (es : List (Option PaperField)) → AllByRecursion (λ e. AllByRecursion P (option_to_list e)) es → AllByRecursion P (given es)
 all_given P [] a = tt
 all_given P (e ∷ es) a = All-append P (option_to_list e) (given es) a.0 (all_given P es a.1)
 
-entries_admitted : (c : Columns) (fs : List PaperField) (es : List (Option PaperField)) → EachKept (bound_rules c) fs es → All (Admitted c) (given es)
+entries_admitted : (c : Columns) (fs : List PaperField) (es : List (Option PaperField)) → EachKept (bound_rules c) fs es → AllByRecursion (Admitted c) (given es)
 entries_admitted c fs es k =
-    all_given (Admitted c) es (All-from_get_or (λ e. All (Admitted c) (option_to_list e)) es None (λ i l. entry_admitted c 9 (fs ++ given (take i es)) (get_or es i None) (k i l None)))
+    all_given (Admitted c) es (All-from_get_or (λ e. AllByRecursion (Admitted c) (option_to_list e)) es None (λ i l. entry_admitted c 9 (fs ++ given (take i es)) (get_or es i None) (k i l None)))
 
 module _ (c : Columns) where
   abbrev Fine : Paper → Type 0
-  Fine p = All (Admitted c) p.fields
+  Fine p = AllByRecursion (Admitted c) p.fields
 
   -- accepted or refused, the fields are fine
   changed : (rules : List Rule) (p next q : Paper) (answer : Answer) → (AllKept rules → Fine next) → Fine p → Changes rules p next answer q → Fine q

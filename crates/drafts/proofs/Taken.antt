@@ -1,6 +1,6 @@
 -- An unbound spec that is taken over, from what the check of its fields says. Assumes nothing.
 use Rattle.std.proofs.Common.{◌≡◌, List, [], ◌∷◌, ◌++◌, map, ℤ, pos, IfOk, Some, None, Ok, Err, Option, Result, unwrap_or, sym, refl, ap, ◌∙◌, subst}
-use Rattle.std.specs.List.{AllByRecursion as All}
+use Rattle.std.specs.List.{AllByRecursion}
 use Rattle.schemas.specs.Columns.{Columns}
 use Rattle.partitions.specs.BatchFaults.{batch_told}
 use Rattle.drafts.specs.Batches.{RefusedAt}
@@ -37,7 +37,7 @@ module _ (c : Columns) (s : PaperSpec) (b : Buildable s.fields) where
   then_batch : (answer : Answer) (q : Paper) → Step (identified s.spec_id) (taking_batch c s.fields) answer q → Ran (taking_calls c s) (id_answers s.spec_id ++ answer ∷ []) q
   then_batch answer q h = one_more blank_paper (identified s.spec_id) q (taking_batch c s.fields) answer (id_calls s.spec_id) (id_answers s.spec_id) h (identified_run s.spec_id)
 
-  took : (d : PartitionSpecBuilder) → paper d ≡ with_fields s.fields (identified s.spec_id) → All (Admitted c) s.fields → Takes c s (Ok d)
+  took : (d : PartitionSpecBuilder) → paper d ≡ with_fields s.fields (identified s.spec_id) → AllByRecursion (Admitted c) s.fields → Takes c s (Ok d)
   took d e a =
       let h : Step (identified s.spec_id) (taking_batch c s.fields) None (paper d)
       = subst (λ (q : Paper). Step (identified s.spec_id) (taking_batch c s.fields) None q) (sym e) (accepted c (identified s.spec_id) s.fields (no_fields s.spec_id) b a) in
@@ -61,7 +61,7 @@ module _ (c : Columns) (s : PaperSpec) (id : Option ℤ) (fs gs : List PaperFiel
   whole : read ≡ s
   whole = ap (λ (hs : List PaperField). record { spec_id = id; fields = hs }) same ∙ parts
 
-  pub taken_over : (d : PartitionSpecBuilder) (own passed : ℤ) → paper d ≡ record { spec_id = own; start = pos 999; fields = fs } → own ≡ passed → passed ≡ unwrap_or id (pos 0) → All (Admitted c) gs → Takes c s (Ok d)
+  pub taken_over : (d : PartitionSpecBuilder) (own passed : ℤ) → paper d ≡ record { spec_id = own; start = pos 999; fields = fs } → own ≡ passed → passed ≡ unwrap_or id (pos 0) → AllByRecursion (Admitted c) gs → Takes c s (Ok d)
   taken_over d own passed e o v a = subst (λ (t : PaperSpec). Takes c t (Ok d)) whole (took c read b d (e ∙ identified_is id own fs (o ∙ v) ∙ ap (λ (hs : List PaperField). with_fields hs (identified id)) (sym same)) a)
 
   -- what the exit of a `?` leaves
