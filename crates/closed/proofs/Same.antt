@@ -1,16 +1,18 @@
 -- `==` of fields and of slices of them, compared on paper. Assumes nothing.
-use Rattle.std.proofs.Common.{◌≡◌, Bool, List, Some, Decides, sym, ap, ◌∙◌}
+use Rattle.std.proofs.Common.{◌≡◌, Bool, List, Some, vec_items, Decides, sym, ap, ◌∙◌}
 use Rattle.std.specs.Cmp.Lexicographic.{pointwise, bytes_decides}
 use Rattle.std.proofs.lemmas.Bool.Decides.{same_from_decides, Decides-like, Decides-and, Decides-int_eq}
 use Rattle.names.specs.NameBytes.{name_bytes}
 use Rattle.transforms.proofs.Equality.{transform_eq-Decides}
 use Rattle.numbering.proofs.Options.{some_same}
 use Rattle.partitions.proofs.Same.{views, views_decided}
-use Rattle.partitions.specs.Fields.{PaperField}
+use Rattle.partitions.specs.Fields.{PaperField, PaperSpec}
 use Rattle.closed.specs.Bare.{Bare, bare}
-use Rattle.closed.specs.Equals.{bare_eq, field_eq}
+use Rattle.closed.specs.Equals.{bare_eq, field_eq, spec_eq}
+use Rattle.closed.specs.Closed.{paper_closed}
 use Rattle.closed.specs.Opened.{opened, openeds}
 use Rattle.closed.specs.declared.field.PartitionField.{PartitionField}
+use Rattle.closed.specs.declared.spec.PartitionSpec.{PartitionSpec}
 
 pub bare_eq-Decides : (x y : PartitionField) → Decides (bare_eq x y) (bare (opened x) ≡ bare (opened y))
 bare_eq-Decides x y =
@@ -28,6 +30,13 @@ field_eq-Decides x y =
     record { source = (p.1 i).source; id = Some (p.0 i); name = (p.1 i).name; transform = (p.1 i).transform })
     (λ e. (some_same _ _ (ap (λ (f : PaperField). f.id) e), ap bare e))
     (Decides-and _ _ (Decides-int_eq x.field_id y.field_id) (bare_eq-Decides x y))
+
+pub spec_eq-Decides : (x y : PartitionSpec) → Decides (spec_eq x y) (paper_closed x ≡ paper_closed y)
+spec_eq-Decides x y =
+    Decides-like _
+    (λ (p : (x.spec_id ≡ y.spec_id) × (openeds (vec_items x.fields) ≡ openeds (vec_items y.fields))) i. record { spec_id = Some (p.0 i); fields = p.1 i })
+    (λ e. (some_same _ _ (ap (λ (s : PaperSpec). s.spec_id) e), ap (λ (s : PaperSpec). s.fields) e))
+    (Decides-and _ _ (Decides-int_eq x.spec_id y.spec_id) (views opened field_eq field_eq-Decides (vec_items x.fields) (vec_items y.fields)))
 
 -- what the fields compute to is told by their fields on paper
 pub fields_computed : (xs ys us vs : List PartitionField) (r : Bool) → openeds xs ≡ openeds us → openeds ys ≡ openeds vs → r ≡ pointwise field_eq xs ys → r ≡ pointwise field_eq us vs

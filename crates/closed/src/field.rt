@@ -3,7 +3,7 @@ ghost use Rattle.std.specs.Prelude.{◌≡◌, Decides};
 ghost use Rattle.transforms.specs.declared.transform.Transform.TheVariants.{Void};
 ghost use Rattle.closed.specs.Bare.{bare};
 ghost use Rattle.closed.specs.Opened.{opened};
-ghost use Rattle.closed.specs.Equals.{field_eq};
+ghost use Rattle.closed.specs.Equals.{field_eq, FieldsAreEqualExactlyWhenTheSame};
 ghost use Rattle.closed.specs.EqualLaws.{field_eq_laws};
 
 use names::name::Name;
@@ -43,6 +43,7 @@ impl PartialEq for PartitionField {
     fn eq(&self, other: &PartitionField) -> bool
         ensures value { result ≡ field_eq self.now other.now }
         ensures decides { Decides result (opened self.now ≡ opened other.now) }
+        ensures exactly { FieldsAreEqualExactlyWhenTheSame }
     {
         self.field_id == other.field_id && self.is_compatible_with(other)
     }

@@ -2,7 +2,7 @@
 ghost use Rattle.std.specs.Prelude.{◌≡◌, Decides};
 ghost use Rattle.closed.specs.Closed.{paper_closed};
 ghost use Rattle.closed.specs.Questions.{Compatible};
-ghost use Rattle.closed.specs.Equals.{spec_eq};
+ghost use Rattle.closed.specs.Equals.{spec_eq, SpecsAreEqualExactlyWhenTheSame};
 ghost use Rattle.closed.specs.EqualLaws.{spec_eq_laws};
 
 use super::PartitionSpec;
@@ -34,6 +34,7 @@ impl PartialEq for PartitionSpec {
     fn eq(&self, other: &PartitionSpec) -> bool
         ensures value { result ≡ spec_eq self.now other.now }
         ensures decides { Decides result (paper_closed self.now ≡ paper_closed other.now) }
+        ensures exactly { SpecsAreEqualExactlyWhenTheSame }
     {
         self.spec_id == other.spec_id && self.fields() == other.fields()
     }

@@ -6,7 +6,7 @@ use Rattle.partitions.proofs.Same.{views_decided, specs_decided}
 use Rattle.closed.specs.Closed.{paper_closed}
 use Rattle.closed.specs.Equals.{field_eq}
 use Rattle.closed.specs.Opened.{opened}
-use Rattle.closed.proofs.Same.{field_eq-Decides, fields_computed}
+use Rattle.closed.proofs.Same.{field_eq-Decides, spec_eq-Decides, fields_computed}
 use Rattle.closed.proofs.spec.compares.PartitionSpecPartialEq.eq.Goals as goal
 
 pub returns-then-self-other-clause-decides : goal.returns-then-self-other-clause-decides
@@ -20,3 +20,9 @@ returns-then-self-other-clause-value c =
     let fields = fields_computed c.fields.result.now c.fields-then-self-other.result.now (vec_items c.args.self.now.fields) (vec_items c.args.other.now.fields) c.eq.result c.fields.ensures.same c.fields-then-self-other.ensures.same c.eq.ensures in
     let ids : c.args.self.now.spec_id ≡ c.args.other.now.spec_id = search rules in
     fields ∙ ap (λ b. b && pointwise field_eq (vec_items c.args.self.now.fields) (vec_items c.args.other.now.fields)) (sym ((Decides-int_eq c.args.self.now.spec_id c.args.other.now.spec_id).1 ids))
+
+pub returns-then-self-other-clause-exactly : goal.returns-then-self-other-clause-exactly
+returns-then-self-other-clause-exactly c = spec_eq-Decides
+
+pub returns-else-self-other-clause-exactly : goal.returns-else-self-other-clause-exactly
+returns-else-self-other-clause-exactly c = spec_eq-Decides
