@@ -38,8 +38,8 @@ maybe_ids None (Some y) = (λ e. absurd (false≢true e), λ e. cc)
 maybe_ids (Some x) None = (λ e. absurd (false≢true e), λ e. cc)
 maybe_ids (Some x) (Some y) = Decides-like _ (λ e. ap Some e) (λ e. cc) (Decides-int_eq x y)
 
-pub field_eq-Decides : (x y : UnboundPartitionField) → Decides (field_eq x y) (paper_field x ≡ paper_field y)
-field_eq-Decides x y =
+pub fields_decided : (x y : UnboundPartitionField) → Decides (field_eq x y) (paper_field x ≡ paper_field y)
+fields_decided x y =
     Decides-like _
     (λ (p : (x.source_id ≡ y.source_id) × ((x.field_id ≡ y.field_id) × ((name_bytes x.name ≡ name_bytes y.name) × (x.transform ≡ y.transform)))) i.
     record { source = p.0 i; id = p.1.0 i; name = p.1.1.0 i; transform = p.1.1.1 i })
@@ -55,11 +55,11 @@ specs_decided x y fs gs r i p q d =
 -- what the fields compute to is told by their views
 pub fields_computed : (xs ys us vs : List UnboundPartitionField) (r : Bool) → papers xs ≡ papers us → papers ys ≡ papers vs → r ≡ pointwise field_eq xs ys → r ≡ pointwise field_eq us vs
 fields_computed xs ys us vs r p q e =
-    same_from_decides r _ (Decides-like r (λ h. sym p ∙ h ∙ q) (λ h. p ∙ h ∙ sym q) (views_decided paper_field field_eq field_eq-Decides xs ys r e)) (views paper_field field_eq field_eq-Decides us vs)
+    same_from_decides r _ (Decides-like r (λ h. sym p ∙ h ∙ q) (λ h. p ∙ h ∙ sym q) (views_decided paper_field field_eq fields_decided xs ys r e)) (views paper_field field_eq fields_decided us vs)
 
 pub spec_eq-Decides : (x y : UnboundPartitionSpec) → Decides (spec_eq x y) (paper_spec x ≡ paper_spec y)
 spec_eq-Decides x y =
     Decides-like _
     (λ (p : (x.spec_id ≡ y.spec_id) × (papers (vec_items x.fields.fields) ≡ papers (vec_items y.fields.fields))) i. record { spec_id = p.0 i; fields = p.1 i })
     (λ e. (ap (λ (s : PaperSpec). s.spec_id) e, ap (λ (s : PaperSpec). s.fields) e))
-    (Decides-and _ _ (maybe_ids x.spec_id y.spec_id) (views paper_field field_eq field_eq-Decides (vec_items x.fields.fields) (vec_items y.fields.fields)))
+    (Decides-and _ _ (maybe_ids x.spec_id y.spec_id) (views paper_field field_eq fields_decided (vec_items x.fields.fields) (vec_items y.fields.fields)))

@@ -65,6 +65,7 @@ impl PartialEq for UnboundPartitionField {
 
     ghost laws = { field_eq_laws };
 
+    #[tactic(auto, using(crate::proofs::Same::fields_decided))]
     fn eq(&self, other: &UnboundPartitionField) -> bool
         ensures value { result ≡ field_eq self.now other.now }
         ensures decides { Decides result (paper_field self.now ≡ paper_field other.now) }

@@ -1,5 +1,5 @@
 -- Room first, then each field; only then is anything written.
-use Rattle.std.proofs.Common.{Err, sym, ap, ◌∙◌, subst}
+use Rattle.std.proofs.Common.{Err, sym, ap, ◌∙◌, subst, arith}
 use Rattle.std.proofs.lemmas.Result.{err_from_is_err_and}
 use Rattle.closed.specs.Closed.{paper_closed}
 use Rattle.closed.specs.Typing.{Types}
@@ -15,7 +15,7 @@ returns-in_err-check_types g c =
     let fields = (paper_closed c.args.self.now).fields in
     let fault = c.in_err-check_types.field-0.0 in
     let p = err_from_is_err_and c.from_residual.result c.from_residual.ensures.1 in
-    let b = types_broken columns c.fields-fields.result.now fields c.fields-fields.ensures.same c.args.into.now c.if-into-fields.false fault c.in_err-check_types.ensures in
+    let b = types_broken columns c.fields-fields.result.now fields c.fields-fields.ensures.same c.args.into.now (omega arith) fault c.in_err-check_types.ensures in
     subst (Types columns fields c.args.into.now c.args.into.now) (sym (p.1 ∙ ap Err p.2)) b
 
 pub returns : goal.returns
