@@ -3,6 +3,7 @@ ghost use Rattle.binding.specs.BindFaults.{told};
 
 use faults::Fault;
 use faults::error::{ErrorKind, Layer};
+use faults::refusal::Refusal;
 use partitions::batch::BatchFault;
 use partitions::fault::DraftFault;
 
@@ -17,45 +18,10 @@ pub enum BindFault {
 impl Fault for BindFault {
     ghost told = { told };
 
-    fn number(&self) -> u8 {
+    fn refusal(&self) -> Refusal {
         match self {
-            BindFault::Batch(fault) => fault.number(),
-            BindFault::Draft(fault) => fault.number(),
-        }
-    }
-
-    fn kind(&self) -> ErrorKind {
-        match self {
-            BindFault::Batch(fault) => fault.kind(),
-            BindFault::Draft(fault) => fault.kind(),
-        }
-    }
-
-    fn layer(&self) -> Layer {
-        match self {
-            BindFault::Batch(fault) => fault.layer(),
-            BindFault::Draft(fault) => fault.layer(),
-        }
-    }
-
-    fn reason(&self) -> &'static str {
-        match self {
-            BindFault::Batch(fault) => fault.reason(),
-            BindFault::Draft(fault) => fault.reason(),
-        }
-    }
-
-    fn value(&self) -> Option<usize> {
-        match self {
-            BindFault::Batch(fault) => fault.value(),
-            BindFault::Draft(fault) => fault.value(),
-        }
-    }
-
-    fn index(&self) -> Option<usize> {
-        match self {
-            BindFault::Batch(fault) => fault.index(),
-            BindFault::Draft(fault) => fault.index(),
+            BindFault::Batch(fault) => fault.refusal(),
+            BindFault::Draft(fault) => fault.refusal(),
         }
     }
 }

@@ -5,6 +5,7 @@ ghost use Rattle.closed.specs.TypeFaults.{told};
 
 use faults::Fault;
 use faults::error::{ErrorKind, Layer};
+use faults::refusal::Refusal;
 use numbering::TellsId;
 use transforms::datatypes::Type;
 use transforms::transform::TypeFault as TransformFault;
@@ -45,39 +46,12 @@ impl TellsId for TypeField {
 impl Fault for TypeFault {
     ghost told = { told };
 
-    fn number(&self) -> u8 {
-        match self {
-            TypeFault::MemoryShort => 12,
-            TypeFault::SourceUnknown => 24,
-            TypeFault::NoResult(fault) => fault.number(),
-        }
-    }
-
-    fn kind(&self) -> ErrorKind {
-        match self {
-            TypeFault::MemoryShort => ErrorKind::DataInvalid,
-            TypeFault::SourceUnknown => ErrorKind::Unexpected,
-            TypeFault::NoResult(fault) => fault.kind(),
-        }
-    }
-
-    fn layer(&self) -> Layer {
-        Layer::Type
-    }
-
-    fn reason(&self) -> &'static str {
-        match self {
-            TypeFault::MemoryShort => "memory-short",
-            TypeFault::SourceUnknown => "source-unknown",
-            TypeFault::NoResult(fault) => fault.reason(),
-        }
-    }
-
-    fn value(&self) -> Option<usize> {
-        None
-    }
-
-    fn index(&self) -> Option<usize> {
-        None
+    fn refusal(&self) -> Refusal {
+        let (number, kind, reason) = match *self {
+            TypeFault::MemoryShort => (12, ErrorKind::DataInvalid, "memory-short"),
+            TypeFault::SourceUnknown => (24, ErrorKind::Unexpected, "source-unknown"),
+            TypeFault::NoResult(fault) => return fault.refusal(),
+        };
+        Refusal::new(number, kind, Layer::Type, reason)
     }
 }

@@ -3,35 +3,59 @@
 
 ghost use Rattle.std.specs.Prelude.{◌≡◌};
 ghost use Rattle.faults.specs.Told.{Told, kind_word, layer_word};
+ghost use Rattle.faults.specs.Refusals.{told_by};
 
 pub mod error;
 pub mod refusal;
 
 use error::{ErrorKind, Layer};
+use refusal::Refusal;
 
 // A refusal by what it tells. `told` is the one definition of an enum's numbers and values.
 pub trait Fault {
     ghost told: { Self → Told };
 
+    // All that it tells.
+    fn refusal(&self) -> Refusal
+        ensures { told_by result ≡ told self.now };
+
     fn number(&self) -> u8
-        ensures { result ≡ (told self.now).number };
+        ensures { result ≡ (told self.now).number }
+    {
+        self.refusal().number
+    }
 
     fn kind(&self) -> ErrorKind
-        ensures { result ≡ (told self.now).kind };
+        ensures { result ≡ (told self.now).kind }
+    {
+        self.refusal().kind
+    }
 
     fn layer(&self) -> Layer
-        ensures { result ≡ (told self.now).layer };
+        ensures { result ≡ (told self.now).layer }
+    {
+        self.refusal().layer
+    }
 
     fn reason(&self) -> &'static str
-        ensures { result.now ≡ (told self.now).reason };
+        ensures { result.now ≡ (told self.now).reason }
+    {
+        self.refusal().reason
+    }
 
     // the length or the index of an earlier field that goes with the number
     fn value(&self) -> Option<usize>
-        ensures { result ≡ (told self.now).value };
+        ensures { result ≡ (told self.now).value }
+    {
+        self.refusal().value
+    }
 
     // which field of a batch, or entry of a record, was refused
     fn index(&self) -> Option<usize>
-        ensures { result ≡ (told self.now).index };
+        ensures { result ≡ (told self.now).index }
+    {
+        self.refusal().index
+    }
 }
 
 impl ErrorKind {

@@ -1,6 +1,6 @@
 // A refusal as a value, whatever fault it comes from.
 ghost use Rattle.std.specs.Prelude.{◌≡◌, Some};
-ghost use Rattle.faults.specs.Refusals.{told_by, refusal_text};
+ghost use Rattle.faults.specs.Refusals.{told_by, plain, refusal_text};
 
 use crate::Fault;
 use crate::error::{ErrorKind, Layer};
@@ -17,18 +17,26 @@ pub struct Refusal {
 }
 
 impl Refusal {
-    // What a fault tells.
-    pub fn of<F: Fault>(fault: &F) -> Refusal
-        ensures { told_by result ≡ F.Fault.told fault.now }
+    // A refusal with no value and no index.
+    pub fn new(number: u8, kind: ErrorKind, layer: Layer, reason: &'static str) -> Refusal
+        ensures { told_by result ≡ plain number kind layer reason.now }
     {
         Refusal {
-            number: fault.number(),
-            kind: fault.kind(),
-            layer: fault.layer(),
-            reason: fault.reason(),
-            value: fault.value(),
-            index: fault.index(),
+            number,
+            kind,
+            layer,
+            reason,
+            value: None,
+            index: None,
         }
+    }
+}
+
+impl<F: Fault + Drop> From<F> for Refusal {
+    ghost from_gives = { λ fault r. told_by r ≡ F.Fault.told fault };
+
+    fn from(fault: F) -> Refusal {
+        fault.refusal()
     }
 }
 

@@ -1,10 +1,10 @@
 -- A search for the first place, step by step. Assumes nothing.
-use Rattle.std.proofs.Common.{◌≡◌, ℕ, zero, suc, ◌+◌, ◌<◌, ◌≤◌, List, [], ◌∷◌, length, get_or, Some, None, Option, sym, ◌∙◌, subst, ⊎_elim, arith}
+use Rattle.std.proofs.Common.{◌≡◌, Bool, is_some, ℕ, zero, suc, ◌+◌, ◌<◌, ◌≤◌, List, [], ◌∷◌, length, get_or, Some, None, Option, sym, ◌∙◌, subst, ⊎_elim, arith}
 use Rattle.std.proofs.lemmas.List.{get_or_default}
 use Rattle.std.proofs.lemmas.Option.{slice_get-get_or, slice_get_past}
 use Rattle.std.proofs.lemmas.Bool.{cases_lt}
 use Rattle.std.specs.List.{slice_get}
-use Rattle.partitions.specs.Places.{NoneBefore, Nowhere, Somewhere, FirstAt}
+use Rattle.partitions.specs.Places.{NoneBefore, Nowhere, Somewhere, FirstAt, Finds, Tells}
 
 module _ {X : Type 0} where
   pub never : (x : X) → ◌≡◌ {A = Option X} None (Some x) → ⊥
@@ -62,6 +62,11 @@ module _ {X : Type 0} where
         ⊎_elim (λ b. before k d b p)
         (λ b. let e : k ≡ n = omega arith in f n (record { inside = h; here = λ d'. subst P (get_or_default xs n d d' h) (subst (λ j. P (get_or xs j d)) e p); before = before }))
         (cases_lt k n)
+
+    -- a search for the first place tells whether there is some
+    pub told_by_first : (r : Option ℕ) (b : Bool) → b ≡ is_some r → Finds P xs r → Tells P xs b
+    told_by_first None b e n = subst (Tells P xs) (sym e) n
+    told_by_first (Some i) b e f = subst (Tells P xs) (sym e) (record { place = i; inside = f.inside; here = f.here })
 
     pub nowhere_from : ((i : ℕ) → FirstAt P xs i → ⊥) → Nowhere P xs
     nowhere_from f = none_below f (length xs) (omega arith)

@@ -9,7 +9,7 @@ abbrev pub paper_spec : UnboundPartitionSpec → PaperSpec
 paper_spec s = record { spec_id = s.spec_id; fields = listed s.fields }
 
 abbrev pub paper_draft : UnboundPartitionSpecBuilder → PaperSpec
-paper_draft d = record { spec_id = d.spec_id; fields = listed d.fields }
+paper_draft d = paper_spec d.spec
 
 -- no id, and no fields
 abbrev pub blank : PaperSpec

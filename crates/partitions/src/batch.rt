@@ -1,9 +1,16 @@
 // A batch of fields to add, whose names lie in one area of bytes, and why a batch is refused.
+ghost use Rattle.std.specs.Prelude.{◌≡◌};
+ghost use Rattle.std.specs.Option.{option_map};
 ghost use Rattle.partitions.specs.BatchFaults.{cause_told, batch_told};
+ghost use Rattle.partitions.specs.Batches.{entry};
+ghost use Rattle.partitions.specs.Views.{seen};
+ghost use Rattle.partitions.specs.declared.batch.BatchCause.TheVariants.{Add};
 
 use crate::fault::DraftFault;
+use crate::field::FieldView;
 use faults::Fault;
 use faults::error::{ErrorKind, Layer};
+use faults::refusal::Refusal;
 use names::name::NamePlace;
 use transforms::transform::Transform;
 
@@ -13,6 +20,21 @@ pub struct BatchField {
     pub field_id: Option<i32>,
     pub name: NamePlace,
     pub transform: Transform,
+}
+
+impl BatchField {
+    // The field, with its name from the area; None where the name's place passes the area's end.
+    pub fn view<'a>(&self, area: &'a [u8]) -> Option<FieldView<'a>>
+        ensures { option_map seen result ≡ entry area.now self.now }
+    {
+        let name = self.name.of(area)?;
+        Some(FieldView {
+            source_id: self.source_id,
+            field_id: self.field_id,
+            name,
+            transform: self.transform,
+        })
+    }
 }
 
 #[derive(Clone, Copy)]
@@ -33,70 +55,32 @@ pub struct BatchFault {
 impl Fault for BatchCause {
     ghost told = { cause_told };
 
-    fn number(&self) -> u8 {
+    fn refusal(&self) -> Refusal {
         match self {
-            BatchCause::PlaceOutside => 9,
-            BatchCause::Add(fault) => fault.number(),
+            BatchCause::PlaceOutside => {
+                Refusal::new(9, ErrorKind::DataInvalid, Layer::Batch, "place-outside")
+            }
+            BatchCause::Add(fault) => fault.refusal(),
         }
-    }
-
-    fn kind(&self) -> ErrorKind {
-        match self {
-            BatchCause::PlaceOutside => ErrorKind::DataInvalid,
-            BatchCause::Add(fault) => fault.kind(),
-        }
-    }
-
-    fn layer(&self) -> Layer {
-        match self {
-            BatchCause::PlaceOutside => Layer::Batch,
-            BatchCause::Add(fault) => fault.layer(),
-        }
-    }
-
-    fn reason(&self) -> &'static str {
-        match self {
-            BatchCause::PlaceOutside => "place-outside",
-            BatchCause::Add(fault) => fault.reason(),
-        }
-    }
-
-    fn value(&self) -> Option<usize> {
-        match self {
-            BatchCause::PlaceOutside => None,
-            BatchCause::Add(fault) => fault.value(),
-        }
-    }
-
-    fn index(&self) -> Option<usize> {
-        None
     }
 }
 
 impl Fault for BatchFault {
     ghost told = { batch_told };
 
-    fn number(&self) -> u8 {
-        self.cause.number()
+    fn refusal(&self) -> Refusal {
+        Refusal {
+            layer: Layer::Batch,
+            index: Some(self.index),
+            ..self.cause.refusal()
+        }
     }
+}
 
-    fn kind(&self) -> ErrorKind {
-        self.cause.kind()
-    }
+impl From<DraftFault> for BatchCause {
+    ghost from_gives = { λ fault r. r ≡ Add fault };
 
-    fn layer(&self) -> Layer {
-        Layer::Batch
-    }
-
-    fn reason(&self) -> &'static str {
-        self.cause.reason()
-    }
-
-    fn value(&self) -> Option<usize> {
-        self.cause.value()
-    }
-
-    fn index(&self) -> Option<usize> {
-        Some(self.index)
+    fn from(fault: DraftFault) -> BatchCause {
+        BatchCause::Add(fault)
     }
 }

@@ -1,8 +1,11 @@
 // Why a call on a draft is refused.
+ghost use Rattle.std.specs.Prelude.{◌≡◌};
 ghost use Rattle.partitions.specs.DraftFaults.{told};
+ghost use Rattle.partitions.specs.declared.fault.DraftFault.TheVariants.{Name};
 
 use faults::Fault;
 use faults::error::{ErrorKind, Layer};
+use faults::refusal::Refusal;
 use names::name::NameFault;
 
 #[derive(Clone, Copy)]
@@ -27,66 +30,37 @@ pub enum DraftFault {
 impl Fault for DraftFault {
     ghost told = { told };
 
-    fn number(&self) -> u8 {
-        match self {
-            DraftFault::Name(fault) => fault.number(),
-            DraftFault::NameUsed { .. } => 20,
-            DraftFault::Alike { .. } => 21,
-            DraftFault::NamedAsOtherColumn => 22,
-            DraftFault::NamedAsColumn => 23,
-            DraftFault::SourceUnknown => 24,
-            DraftFault::SourceNotPrimitive => 25,
-            DraftFault::SourceUnfit => 26,
-            DraftFault::IdUsed => 27,
-            DraftFault::Full => 28,
-            DraftFault::NoNumber => 29,
-            DraftFault::SourceNameUnknown => 30,
-            DraftFault::SourceMarked => 33,
-        }
-    }
-
-    fn kind(&self) -> ErrorKind {
-        match self {
-            DraftFault::Name(fault) => fault.kind(),
+    fn refusal(&self) -> Refusal {
+        let (number, reason, value) = match *self {
+            DraftFault::Name(fault) => return fault.refusal(),
+            DraftFault::NameUsed { index } => (20, "name-used", Some(index)),
+            DraftFault::Alike { index } => (21, "alike", Some(index)),
+            DraftFault::NamedAsOtherColumn => (22, "identity-named-as-other-column", None),
+            DraftFault::NamedAsColumn => (23, "named-as-column", None),
+            DraftFault::SourceUnknown => (24, "source-unknown", None),
+            DraftFault::SourceNotPrimitive => (25, "source-not-primitive", None),
+            DraftFault::SourceUnfit => (26, "source-unfit", None),
+            DraftFault::IdUsed => (27, "id-used", None),
+            DraftFault::Full => (28, "full", None),
+            DraftFault::NoNumber => (29, "no-number", None),
+            DraftFault::SourceNameUnknown => (30, "source-name-unknown", None),
+            DraftFault::SourceMarked => (33, "source-marked", None),
+        };
+        let kind = match *self {
             DraftFault::Full => ErrorKind::PreconditionFailed,
             _ => ErrorKind::DataInvalid,
+        };
+        Refusal {
+            value,
+            ..Refusal::new(number, kind, Layer::Draft, reason)
         }
     }
+}
 
-    fn layer(&self) -> Layer {
-        match self {
-            DraftFault::Name(fault) => fault.layer(),
-            _ => Layer::Draft,
-        }
-    }
+impl From<NameFault> for DraftFault {
+    ghost from_gives = { λ fault r. r ≡ Name fault };
 
-    fn reason(&self) -> &'static str {
-        match self {
-            DraftFault::Name(fault) => fault.reason(),
-            DraftFault::NameUsed { .. } => "name-used",
-            DraftFault::Alike { .. } => "alike",
-            DraftFault::NamedAsOtherColumn => "identity-named-as-other-column",
-            DraftFault::NamedAsColumn => "named-as-column",
-            DraftFault::SourceUnknown => "source-unknown",
-            DraftFault::SourceNotPrimitive => "source-not-primitive",
-            DraftFault::SourceUnfit => "source-unfit",
-            DraftFault::IdUsed => "id-used",
-            DraftFault::Full => "full",
-            DraftFault::NoNumber => "no-number",
-            DraftFault::SourceNameUnknown => "source-name-unknown",
-            DraftFault::SourceMarked => "source-marked",
-        }
-    }
-
-    fn value(&self) -> Option<usize> {
-        match self {
-            DraftFault::Name(fault) => fault.value(),
-            DraftFault::NameUsed { index } | DraftFault::Alike { index } => Some(*index),
-            _ => None,
-        }
-    }
-
-    fn index(&self) -> Option<usize> {
-        None
+    fn from(fault: NameFault) -> DraftFault {
+        DraftFault::Name(fault)
     }
 }

@@ -1,6 +1,5 @@
 // Partition fields: as a draft keeps them, and as a holder of fields shows them.
 ghost use Rattle.std.specs.Prelude.{◌≡◌, Decides};
-ghost use Rattle.partitions.specs.Fields.{Named, AlikeOn, HasId};
 ghost use Rattle.partitions.specs.Views.{paper_field, seen};
 ghost use Rattle.partitions.specs.Equals.{field_eq, FieldsAreEqualExactlyWhenTheSame};
 ghost use Rattle.partitions.specs.EqualLaws.{field_eq_laws};
@@ -37,26 +36,6 @@ impl UnboundPartitionField {
             name: self.name.as_bytes(),
             transform: self.transform,
         }
-    }
-}
-
-impl FieldView<'_> {
-    pub fn is_named(&self, name: &[u8]) -> bool
-        ensures { Decides result (Named name.now (seen self.now)) }
-    {
-        self.name == name
-    }
-
-    pub fn is_alike(&self, source_id: i32, transform: Transform) -> bool
-        ensures { Decides result (AlikeOn source_id transform (seen self.now)) }
-    {
-        self.source_id == source_id && self.transform.alike(&transform)
-    }
-
-    pub fn has_id(&self, field_id: i32) -> bool
-        ensures { Decides result (HasId field_id (seen self.now)) }
-    {
-        self.field_id == Some(field_id)
     }
 }
 

@@ -6,5 +6,7 @@ pub mod builder;
 pub mod fault;
 pub mod field;
 pub mod fields;
+pub mod sought;
 pub mod spec;
 pub mod validator;
+pub mod ways;

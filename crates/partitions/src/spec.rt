@@ -2,10 +2,9 @@
 ghost use Rattle.std.specs.Prelude.{◌≡◌, [], IfOk, Decides};
 ghost use Rattle.partitions.specs.Adds.{Adds};
 ghost use Rattle.partitions.specs.Buildable.{Buildable, BuildableExactlyWhenBuilt};
-ghost use Rattle.partitions.specs.Fields.{field_of};
 ghost use Rattle.partitions.specs.Listed.{listed};
 ghost use Rattle.partitions.specs.Specs.{paper_spec, blank};
-ghost use Rattle.partitions.specs.Views.{papers};
+ghost use Rattle.partitions.specs.Views.{papers, seen};
 ghost use Rattle.partitions.specs.Equals.{spec_eq, SpecsAreEqualExactlyWhenTheSame};
 ghost use Rattle.partitions.specs.EqualLaws.{spec_eq_laws};
 
@@ -13,7 +12,6 @@ use crate::fault::DraftFault;
 use crate::field::{FieldView, UnboundPartitionField};
 use crate::fields::FieldList;
 use std::alloc::{AllocError, Global};
-use transforms::transform::Transform;
 
 #[derive(Drop)]
 pub struct UnboundPartitionSpec {
@@ -42,22 +40,11 @@ impl UnboundPartitionSpec {
     }
 
     // As an unbound draft adds a field.
-    pub fn add_partition_field(
-        &mut self,
-        source_id: i32,
-        field_id: Option<i32>,
-        name: &[u8],
-        transform: Transform,
-    ) -> Result<(), DraftFault>
-        ensures fields { Adds (paper_spec self.old).fields (field_of source_id field_id name.now transform) result (paper_spec self.new).fields }
+    pub fn add_partition_field(&mut self, field: &FieldView<'_>) -> Result<(), DraftFault>
+        ensures fields { Adds (paper_spec self.old).fields (seen field.now) result (paper_spec self.new).fields }
         ensures spec_id { (paper_spec self.new).spec_id ≡ (paper_spec self.old).spec_id }
     {
-        self.fields.add(&FieldView {
-            source_id,
-            field_id,
-            name,
-            transform,
-        })
+        self.fields.add(field)
     }
 
     // Its id and its fields, for whoever takes the spec over.

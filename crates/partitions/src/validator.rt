@@ -9,6 +9,7 @@ ghost use Rattle.partitions.specs.Views.{seen};
 
 use crate::fault::DraftFault;
 use crate::field::FieldView;
+use crate::sought::{AlikeTo, Called, Sought, WithId};
 use transforms::transform::Transform;
 
 // The most fields that a spec may have.
@@ -25,46 +26,43 @@ pub trait CorePartitionSpecValidator {
     fn field_at(&self, index: usize) -> Option<FieldView<'_>>
         ensures { option_map seen result ≡ slice_get (held self.now) index };
 
-    // The index of the first field with the name.
-    fn name_used(&self, name: &[u8]) -> Option<usize>
-        ensures { Finds (Named name.now) (held self.now) result }
+    // The index of the first field that is sought.
+    fn first<S: Sought>(&self, sought: &S) -> Option<usize>
+        ensures { Finds (S.Sought.meets sought.now) (held self.now) result }
     {
+        // kept: by index, since a holder is asked field by field, and has no list of them to walk
         for index in 0..self.field_count() {
             if let Some(field) = self.field_at(index) {
-                if field.is_named(name) {
+                if sought.is(&field) {
                     return Some(index);
                 }
             }
         }
         None
+    }
+
+    // The index of the first field with the name.
+    fn name_used(&self, name: &[u8]) -> Option<usize>
+        ensures { Finds (Named name.now) (held self.now) result }
+    {
+        self.first(&Called(name))
     }
 
     // The index of the first field on the source whose transform is alike.
     fn alike_used(&self, source_id: i32, transform: Transform) -> Option<usize>
         ensures { Finds (AlikeOn source_id transform) (held self.now) result }
     {
-        for index in 0..self.field_count() {
-            if let Some(field) = self.field_at(index) {
-                if field.is_alike(source_id, transform) {
-                    return Some(index);
-                }
-            }
-        }
-        None
+        self.first(&AlikeTo {
+            source_id,
+            transform,
+        })
     }
 
     // Whether a field has the id.
     fn id_used(&self, field_id: i32) -> bool
         ensures { Tells (HasId field_id) (held self.now) result }
     {
-        for index in 0..self.field_count() {
-            if let Some(field) = self.field_at(index) {
-                if field.has_id(field_id) {
-                    return true;
-                }
-            }
-        }
-        false
+        self.first(&WithId(field_id)).is_some()
     }
 
     // Whether a new field's name, or its source with an alike transform, is in use.

@@ -3,6 +3,7 @@ ghost use Rattle.records.specs.RecordFaults.{entry_told, record_told};
 
 use faults::Fault;
 use faults::error::{ErrorKind, Layer};
+use faults::refusal::Refusal;
 use names::name::NameFault;
 use texts::fault::TextFault;
 
@@ -31,99 +32,37 @@ pub enum RecordFault {
 impl Fault for EntryFault {
     ghost told = { entry_told };
 
-    fn number(&self) -> u8 {
-        match self {
-            EntryFault::Malformed => 11,
-            EntryFault::Text(fault) => fault.number(),
-            EntryFault::Name(fault) => fault.number(),
-            EntryFault::NameUsed { .. } => 20,
-            EntryFault::Alike { .. } => 21,
-            EntryFault::IdUsed => 27,
+    fn refusal(&self) -> Refusal {
+        let (number, reason, value) = match *self {
+            EntryFault::Text(fault) => return fault.refusal(),
+            EntryFault::Name(fault) => return fault.refusal(),
+            EntryFault::Malformed => (11, "entry-wrong", None),
+            EntryFault::NameUsed { index } => (20, "name-used", Some(index)),
+            EntryFault::Alike { index } => (21, "alike", Some(index)),
+            EntryFault::IdUsed => (27, "id-used", None),
+        };
+        Refusal {
+            value,
+            ..Refusal::new(number, ErrorKind::DataInvalid, Layer::Record, reason)
         }
-    }
-
-    fn kind(&self) -> ErrorKind {
-        match self {
-            EntryFault::Text(fault) => fault.kind(),
-            EntryFault::Name(fault) => fault.kind(),
-            _ => ErrorKind::DataInvalid,
-        }
-    }
-
-    fn layer(&self) -> Layer {
-        match self {
-            EntryFault::Text(fault) => fault.layer(),
-            EntryFault::Name(fault) => fault.layer(),
-            _ => Layer::Record,
-        }
-    }
-
-    fn reason(&self) -> &'static str {
-        match self {
-            EntryFault::Malformed => "entry-wrong",
-            EntryFault::Text(fault) => fault.reason(),
-            EntryFault::Name(fault) => fault.reason(),
-            EntryFault::NameUsed { .. } => "name-used",
-            EntryFault::Alike { .. } => "alike",
-            EntryFault::IdUsed => "id-used",
-        }
-    }
-
-    fn value(&self) -> Option<usize> {
-        match self {
-            EntryFault::Text(fault) => fault.value(),
-            EntryFault::Name(fault) => fault.value(),
-            EntryFault::NameUsed { index } | EntryFault::Alike { index } => Some(*index),
-            _ => None,
-        }
-    }
-
-    fn index(&self) -> Option<usize> {
-        None
     }
 }
 
 impl Fault for RecordFault {
     ghost told = { record_told };
 
-    fn number(&self) -> u8 {
-        match self {
-            RecordFault::TrailerWrong => 10,
-            RecordFault::MemoryShort => 12,
-            RecordFault::Entry { fault, .. } => fault.number(),
-        }
-    }
-
-    fn kind(&self) -> ErrorKind {
-        match self {
-            RecordFault::Entry { fault, .. } => fault.kind(),
-            _ => ErrorKind::DataInvalid,
-        }
-    }
-
-    fn layer(&self) -> Layer {
-        Layer::Record
-    }
-
-    fn reason(&self) -> &'static str {
-        match self {
-            RecordFault::TrailerWrong => "trailer-wrong",
-            RecordFault::MemoryShort => "memory-short",
-            RecordFault::Entry { fault, .. } => fault.reason(),
-        }
-    }
-
-    fn value(&self) -> Option<usize> {
-        match self {
-            RecordFault::Entry { fault, .. } => fault.value(),
-            _ => None,
-        }
-    }
-
-    fn index(&self) -> Option<usize> {
-        match self {
-            RecordFault::Entry { index, .. } => Some(*index),
-            _ => None,
-        }
+    fn refusal(&self) -> Refusal {
+        let (number, reason) = match *self {
+            RecordFault::Entry { index, fault } => {
+                return Refusal {
+                    layer: Layer::Record,
+                    index: Some(index),
+                    ..fault.refusal()
+                };
+            }
+            RecordFault::TrailerWrong => (10, "trailer-wrong"),
+            RecordFault::MemoryShort => (12, "memory-short"),
+        };
+        Refusal::new(number, ErrorKind::DataInvalid, Layer::Record, reason)
     }
 }

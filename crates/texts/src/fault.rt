@@ -3,6 +3,7 @@ ghost use Rattle.texts.specs.Tells.{told};
 
 use faults::Fault;
 use faults::error::{ErrorKind, Layer};
+use faults::refusal::Refusal;
 
 #[derive(Clone, Copy, PartialEq, Eq)]
 pub enum TextFault {
@@ -21,39 +22,14 @@ pub enum TextFault {
 impl Fault for TextFault {
     ghost told = { told };
 
-    fn number(&self) -> u8 {
-        match *self {
-            TextFault::WordUnknown => 4,
-            TextFault::WidthMissing => 5,
-            TextFault::WidthNonDigit => 6,
-            TextFault::WidthOverflow => 7,
-            TextFault::NotPrinted => 13,
-        }
-    }
-
-    fn kind(&self) -> ErrorKind {
-        ErrorKind::DataInvalid
-    }
-
-    fn layer(&self) -> Layer {
-        Layer::Text
-    }
-
-    fn reason(&self) -> &'static str {
-        match *self {
-            TextFault::WordUnknown => "word-unknown",
-            TextFault::WidthMissing => "width-missing",
-            TextFault::WidthNonDigit => "width-non-digit",
-            TextFault::WidthOverflow => "width-overflow",
-            TextFault::NotPrinted => "not-printed",
-        }
-    }
-
-    fn value(&self) -> Option<usize> {
-        None
-    }
-
-    fn index(&self) -> Option<usize> {
-        None
+    fn refusal(&self) -> Refusal {
+        let (number, reason) = match *self {
+            TextFault::WordUnknown => (4, "word-unknown"),
+            TextFault::WidthMissing => (5, "width-missing"),
+            TextFault::WidthNonDigit => (6, "width-non-digit"),
+            TextFault::WidthOverflow => (7, "width-overflow"),
+            TextFault::NotPrinted => (13, "not-printed"),
+        };
+        Refusal::new(number, ErrorKind::DataInvalid, Layer::Text, reason)
     }
 }

@@ -8,6 +8,7 @@ ghost use Rattle.transforms.specs.Results.{told, primitive_result, nested_result
 use crate::datatypes::{PrimitiveType, Type};
 use faults::Fault;
 use faults::error::{ErrorKind, Layer};
+use faults::refusal::Refusal;
 
 // What a partition or sort field makes of its source's values. A width is any 32-bit number.
 #[derive(Clone, Copy, PartialEq, Eq)]
@@ -32,32 +33,12 @@ pub enum TypeFault {
 impl Fault for TypeFault {
     ghost told = { told };
 
-    fn number(&self) -> u8 {
+    fn refusal(&self) -> Refusal {
         match *self {
-            TypeFault::NoResult => 8,
+            TypeFault::NoResult => {
+                Refusal::new(8, ErrorKind::DataInvalid, Layer::Type, "no-result")
+            }
         }
-    }
-
-    fn kind(&self) -> ErrorKind {
-        ErrorKind::DataInvalid
-    }
-
-    fn layer(&self) -> Layer {
-        Layer::Type
-    }
-
-    fn reason(&self) -> &'static str {
-        match *self {
-            TypeFault::NoResult => "no-result",
-        }
-    }
-
-    fn value(&self) -> Option<usize> {
-        None
-    }
-
-    fn index(&self) -> Option<usize> {
-        None
     }
 }
 

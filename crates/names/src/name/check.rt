@@ -8,6 +8,7 @@ use super::{MAX_LEN, NameFault};
 use crate::utf8::check_utf8;
 use faults::Fault;
 use faults::error::{ErrorKind, Layer};
+use faults::refusal::Refusal;
 
 // Refuses with the first rule that the name breaks.
 pub fn check_name(bytes: &[u8]) -> Result<(), NameFault>
@@ -28,38 +29,15 @@ pub fn check_name(bytes: &[u8]) -> Result<(), NameFault>
 impl Fault for NameFault {
     ghost told = { told };
 
-    fn number(&self) -> u8 {
-        match self {
-            NameFault::Empty => 1,
-            NameFault::Long => 2,
-            NameFault::NotUtf8 { .. } => 3,
+    fn refusal(&self) -> Refusal {
+        let (number, reason, value) = match *self {
+            NameFault::Empty => (1, "name-empty", None),
+            NameFault::Long => (2, "name-long", None),
+            NameFault::NotUtf8 { front } => (3, "name-not-utf8", Some(front)),
+        };
+        Refusal {
+            value,
+            ..Refusal::new(number, ErrorKind::DataInvalid, Layer::Name, reason)
         }
-    }
-
-    fn kind(&self) -> ErrorKind {
-        ErrorKind::DataInvalid
-    }
-
-    fn layer(&self) -> Layer {
-        Layer::Name
-    }
-
-    fn reason(&self) -> &'static str {
-        match self {
-            NameFault::Empty => "name-empty",
-            NameFault::Long => "name-long",
-            NameFault::NotUtf8 { .. } => "name-not-utf8",
-        }
-    }
-
-    fn value(&self) -> Option<usize> {
-        match self {
-            NameFault::NotUtf8 { front } => Some(*front),
-            _ => None,
-        }
-    }
-
-    fn index(&self) -> Option<usize> {
-        None
     }
 }

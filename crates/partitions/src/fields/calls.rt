@@ -58,10 +58,7 @@ impl FieldList {
         ensures rules { Judged (add_rules (listed self.now) (seen field.now)) result }
         ensures name { IfOk result (λ kept. name_bytes kept ≡ (seen field.now).name) }
     {
-        let kept = match Name::new(field.name) {
-            Ok(kept) => kept,
-            Err(fault) => return Err(DraftFault::Name(fault)),
-        };
+        let kept = Name::new(field.name)?;
         self.check_used(field)?;
         self.check_last(field)?;
         Ok(kept)
@@ -83,9 +80,6 @@ impl CorePartitionSpecValidator for FieldList {
     }
 
     fn field_at(&self, index: usize) -> Option<FieldView<'_>> {
-        match self.fields.as_slice().get(index) {
-            Some(field) => Some(field.view()),
-            None => None,
-        }
+        self.fields.as_slice().get(index).map(|field| field.view())
     }
 }

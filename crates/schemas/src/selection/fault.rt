@@ -4,35 +4,19 @@ ghost use Rattle.schemas.specs.SelectRules.{told};
 use super::SelectionFault;
 use faults::Fault;
 use faults::error::{ErrorKind, Layer};
+use faults::refusal::Refusal;
 
 impl Fault for SelectionFault {
     ghost told = { told };
 
-    fn number(&self) -> u8 {
+    fn refusal(&self) -> Refusal {
         match self {
-            SelectionFault::Full => 34,
+            SelectionFault::Full => Refusal::new(
+                34,
+                ErrorKind::PreconditionFailed,
+                Layer::Selection,
+                "selection-full",
+            ),
         }
-    }
-
-    fn kind(&self) -> ErrorKind {
-        ErrorKind::PreconditionFailed
-    }
-
-    fn layer(&self) -> Layer {
-        Layer::Selection
-    }
-
-    fn reason(&self) -> &'static str {
-        match self {
-            SelectionFault::Full => "selection-full",
-        }
-    }
-
-    fn value(&self) -> Option<usize> {
-        None
-    }
-
-    fn index(&self) -> Option<usize> {
-        None
     }
 }

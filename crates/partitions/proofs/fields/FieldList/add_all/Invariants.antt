@@ -5,4 +5,4 @@ use Rattle.partitions.proofs.Batching.{Sofar}
 use Rattle.partitions.proofs.fields.FieldList.add_all.Given as goal
 
 abbrev pub invariant-loop-index : goal.invariant-loop-index
-invariant-loop-index l = Sofar (listed l.initial.self) (entries l.area l.batch) l.index (listed l.self)
+invariant-loop-index g l = Sofar (g.A.Adding.rules l.adding) (listed l.initial.self) (entries l.area l.batch) l.index (listed l.self)

@@ -1,7 +1,0 @@
--- No field before the index is the one that is searched for.
-use Rattle.partitions.specs.Fields.{Named}
-use Rattle.partitions.specs.Places.{NoneBefore}
-use Rattle.partitions.proofs.validator.CorePartitionSpecValidator.name_used.Given as goal
-
-abbrev pub invariant-loop-index : goal.invariant-loop-index
-invariant-loop-index g l = NoneBefore (Named l.name) (g.Self.CorePartitionSpecValidator.held l.self) l.index
