@@ -7,4 +7,7 @@ use Rattle.partitions.proofs.Finding.{told_by_first}
 use Rattle.partitions.proofs.validator.CorePartitionSpecValidator.id_used.Goals as goal
 
 pub returns : goal.returns
-returns g c = told_by_first (HasId c.args.field_id) (g.Self.CorePartitionSpecValidator.held c.args.self.now) c.first.result c.is_some.result c.is_some.ensures c.first.ensures
+returns g c =
+    let fits : SFits w32 c.args.field_id = c.ranges.field_id in
+    let first : Finds (HasId c.args.field_id) (g.Self.CorePartitionSpecValidator.held c.args.self.now) c.first.result = simp to_z-of_z at c.first.ensures in
+    told_by_first (HasId c.args.field_id) (g.Self.CorePartitionSpecValidator.held c.args.self.now) c.first.result c.is_some.result c.is_some.ensures first
