@@ -9,7 +9,7 @@ use Rattle.partitions.specs.DraftFaults.{told}
 use Rattle.partitions.specs.Fields.{PaperField}
 use Rattle.partitions.specs.declared.fault.DraftFault.{DraftFault}
 use Rattle.partitions.proofs.Builds.{built}
-use Rattle.partitions.proofs.Ruled.{not_both}
+use Rattle.faults.proofs.Firsts.{not_both}
 
 -- the field at i, after those before it
 pub added_next : (fs : List PaperField) (i : ℕ) (f : PaperField) → i < length fs → Buildable fs → f ≡ get_or fs i f

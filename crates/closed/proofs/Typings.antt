@@ -9,7 +9,7 @@ use Rattle.schemas.specs.Columns.{Columns}
 use Rattle.schemas.specs.declared.schema.Column.{Column}
 use Rattle.partitions.specs.Fields.{PaperField}
 use Rattle.partitions.proofs.Finding.{never}
-use Rattle.partitions.proofs.Ruled.{keeps, kept_join, broken_front, broken_back}
+use Rattle.faults.proofs.Firsts.{keeps, kept_join, broken_front, broken_back}
 use Rattle.closed.specs.Opened.{opened, openeds}
 use Rattle.closed.specs.TypeFaults.{told}
 use Rattle.closed.specs.Typing.{made_of, making_rules, result_on, field_rules, each_rules, KeptBefore, Typed, TypedAt, Types}

@@ -14,7 +14,7 @@ use Rattle.partitions.specs.Buildable.{Buildable}
 use Rattle.partitions.specs.Fields.{PaperField}
 use Rattle.drafts.proofs.Batching.{there_kept, there_broken}
 use Rattle.partitions.proofs.Builds.{built}
-use Rattle.partitions.proofs.Ruled.{kept_join, kept_front, kept_back, broken_front, broken_back}
+use Rattle.faults.proofs.Firsts.{kept_join, kept_front, kept_back, broken_front, broken_back}
 use Rattle.drafts.specs.BoundAdds.{NotAdmittedAt}
 use Rattle.drafts.specs.Laws.{BuildableAndAdmittedIsAccepted}
 use Rattle.drafts.specs.Paper.{with_fields}

@@ -14,7 +14,7 @@ use Rattle.partitions.specs.Views.{paper_field, papers}
 use Rattle.partitions.specs.declared.batch.BatchCause.TheVariants.{Add}
 use Rattle.partitions.specs.declared.fault.DraftFault.{DraftFault}
 use Rattle.partitions.specs.declared.field.UnboundPartitionField.{UnboundPartitionField}
-use Rattle.partitions.proofs.Ruled.{same_told}
+use Rattle.faults.proofs.Firsts.{same_told}
 use Rattle.drafts.specs.BoundAdds.{NotAdmittedAt}
 use Rattle.drafts.specs.SourceRules.{source_rules, Admitted}
 

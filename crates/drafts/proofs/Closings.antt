@@ -7,7 +7,7 @@ use Rattle.faults.specs.Rules.{AllKept}
 use Rattle.transforms.specs.Results.{result_of}
 use Rattle.schemas.specs.Columns.{Columns}
 use Rattle.partitions.specs.Fields.{PaperField}
-use Rattle.partitions.proofs.Ruled.{kept_join}
+use Rattle.faults.proofs.Firsts.{kept_join}
 use Rattle.partitions.specs.declared.fault.DraftFault.{DraftFault}
 use Rattle.closed.specs.Bare.{Bare, bare, bares}
 use Rattle.closed.specs.Closed.{paper_closed}

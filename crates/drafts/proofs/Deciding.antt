@@ -10,7 +10,7 @@ use Rattle.partitions.specs.Batches.{given}
 use Rattle.drafts.specs.Batches.{rules_unless_none, entry_rules, RefusedAt}
 use Rattle.partitions.specs.Fields.{PaperField, Named, AlikeOn}
 use Rattle.partitions.specs.Places.{FirstAt}
-use Rattle.partitions.proofs.Ruled.{not_both}
+use Rattle.faults.proofs.Firsts.{not_both}
 use Rattle.drafts.specs.BoundAdds.{on_named, named_rules}
 use Rattle.drafts.specs.Calls.{Call, set_spec_id, set_start, add_field, add_named, add_batch, Answer, Changes, ChangesAll, RanFrom}
 use Rattle.drafts.specs.Laws.{SameAnswer, SameAnswers, OneAnswer, OneRun}

@@ -17,7 +17,7 @@ use Rattle.partitions.specs.AddRules.{used_rules, last_rules}
 use Rattle.partitions.specs.Batches.{given}
 use Rattle.drafts.specs.Batches.{rules_unless_none, EachKept}
 use Rattle.partitions.specs.Fields.{PaperField}
-use Rattle.partitions.proofs.Ruled.{kept_front, kept_back}
+use Rattle.faults.proofs.Firsts.{kept_front, kept_back}
 use Rattle.drafts.specs.BoundAdds.{on_named, named_rules}
 use Rattle.drafts.specs.Calls.{Call, set_spec_id, set_start, add_field, add_named, add_batch, Answer, Changes, ChangesAll, Step, RanFrom, Suits}
 use Rattle.drafts.specs.Laws.{Fits, made_with, AdmittedOnEverySuitingSchema}

@@ -1,42 +1,69 @@
--- Lists of rules: what is kept, and that the first broken rule is one only. Assumes nothing.
-use Rattle.std.proofs.Common.{◌≡◌, ℕ, List, [], ◌∷◌, ◌++◌, Some, None, sym, ◌∙◌, inl, inr}
+-- Ordered rules: kept, broken, and joined to a longer list; and that the first broken rule is one only. Assumes nothing.
+use Rattle.std.proofs.Common.{◌≡◌, ℕ, List, [], ◌∷◌, ◌++◌, Some, None, sym, ◌∙◌, subst, inl, inr}
 use Rattle.faults.specs.Told.{Told}
-use Rattle.faults.specs.Rules.{Rule, rule, rule_at, Kept, FirstBroken, AllKept}
+use Rattle.faults.specs.Rules.{Rule, rule, rule_at, Kept, AllKept, FirstBroken}
 
-pub kept : (n : ℕ) (P : Type 0) → (P → ⊥) → Kept (rule n P)
-kept n P p None h = p h
-kept n P p (Some k) h = h
+-- a rule is kept that can't be broken
+pub keeps : (n : ℕ) (P : Type 0) → (P → ⊥) → Kept (rule n P)
+keeps n P no-p None h = no-p h
+keeps n P no-p (Some v) h = h
 
-pub kept_at : (n : ℕ) (P : ℕ → Type 0) → ((k : ℕ) → P k → ⊥) → Kept (rule_at n P)
-kept_at n P p None h = h
-kept_at n P p (Some k) h = p k h
+pub keeps_at : (n : ℕ) (Q : ℕ → Type 0) → ((v : ℕ) → Q v → ⊥) → Kept (rule_at n Q)
+keeps_at n Q no-q None h = h
+keeps_at n Q no-q (Some v) h = no-q v h
 
+-- and can't be broken where it is kept
+pub unbroken : (n : ℕ) (P : Type 0) → Kept (rule n P) → P → ⊥
+unbroken n P k p = k None p
+
+pub unbroken_at : (n : ℕ) (Q : ℕ → Type 0) → Kept (rule_at n Q) → (v : ℕ) → Q v → ⊥
+unbroken_at n Q k v q = k (Some v) q
+
+pub kept_join : (xs ys : List Rule) → AllKept xs → AllKept ys → AllKept (xs ++ ys)
+kept_join [] ys a b = b
+kept_join (x ∷ xs) ys a b = (a.0, kept_join xs ys a.1 b)
+
+pub kept_front : (xs ys : List Rule) → AllKept (xs ++ ys) → AllKept xs
+kept_front [] ys a = tt
+kept_front (x ∷ xs) ys a = (a.0, kept_front xs ys a.1)
+
+pub kept_back : (xs ys : List Rule) → AllKept (xs ++ ys) → AllKept ys
+kept_back [] ys a = a
+kept_back (x ∷ xs) ys a = kept_back xs ys a.1
+
+module _ (t : Told) where
+  -- what is broken first among the earlier rules is broken first of all
+  pub broken_front : (xs ys : List Rule) → FirstBroken xs t → FirstBroken (xs ++ ys) t
+  broken_front [] ys b = absurd b
+  broken_front (x ∷ xs) ys (inl b) = inl b
+  broken_front (x ∷ xs) ys (inr b) = inr (b.0, broken_front xs ys b.1)
+
+  -- and among the later ones, where the earlier are kept
+  pub broken_back : (xs ys : List Rule) → AllKept xs → FirstBroken ys t → FirstBroken (xs ++ ys) t
+  broken_back [] ys a b = b
+  broken_back (x ∷ xs) ys a b = inr (a.0, broken_back xs ys a.1 b)
+
+  pub broken_after : (xs ys : List Rule) → AllKept xs → FirstBroken (xs ++ ys) t → FirstBroken ys t
+  broken_after [] ys a b = b
+  broken_after (x ∷ xs) ys a (inl b) = absurd (a.0 t.value b.1)
+  broken_after (x ∷ xs) ys a (inr b) = broken_after xs ys a.1 b.1
+
+  -- rules that are all kept have no first broken one
+  pub not_both : (xs : List Rule) → AllKept xs → FirstBroken xs t → ⊥
+  not_both [] a b = b
+  not_both (x ∷ xs) a (inl b) = a.0 t.value b.1
+  not_both (x ∷ xs) a (inr b) = not_both xs a.1 b.1
+
+-- only the number and the value of what is told decide
+pub same_told : (t u : Told) → t.number ≡ u.number → t.value ≡ u.value → (xs : List Rule) → FirstBroken xs t → FirstBroken xs u
+same_told t u n v [] b = b
+same_told t u n v (x ∷ xs) (inl b) = inl (sym n ∙ b.0, subst x.Broken v b.1)
+same_told t u n v (x ∷ xs) (inr b) = inr (b.0, same_told t u n v xs b.1)
+
+-- and of two that are told, both first, the numbers are one
 pub first_number : (rules : List Rule) (a b : Told) → FirstBroken rules a → FirstBroken rules b → a.number ≡ b.number
 first_number [] a b p q = absurd p
 first_number (r ∷ rules) a b (inl p) (inl q) = p.0 ∙ sym q.0
 first_number (r ∷ rules) a b (inl p) (inr q) = absurd (q.0 a.value p.1)
 first_number (r ∷ rules) a b (inr p) (inl q) = absurd (p.0 b.value q.1)
 first_number (r ∷ rules) a b (inr p) (inr q) = first_number rules a b p.1 q.1
-
-pub none_broken : (rules : List Rule) (a : Told) → AllKept rules → FirstBroken rules a → ⊥
-none_broken [] a k p = p
-none_broken (r ∷ rules) a k (inl p) = k.0 a.value p.1
-none_broken (r ∷ rules) a k (inr p) = none_broken rules a k.1 p.1
-
--- rules after rules that are kept
-pub broken_later : (rules more : List Rule) (a : Told) → AllKept rules → FirstBroken more a → FirstBroken (rules ++ more) a
-broken_later [] more a k p = p
-broken_later (r ∷ rules) more a k p = inr (k.0, broken_later rules more a k.1 p)
-
-pub broken_before : (rules more : List Rule) (a : Told) → FirstBroken rules a → FirstBroken (rules ++ more) a
-broken_before [] more a p = absurd p
-broken_before (r ∷ rules) more a (inl p) = inl p
-broken_before (r ∷ rules) more a (inr p) = inr (p.0, broken_before rules more a p.1)
-
-pub kept_both : (rules more : List Rule) → AllKept rules → AllKept more → AllKept (rules ++ more)
-kept_both [] more k l = l
-kept_both (r ∷ rules) more k l = (k.0, kept_both rules more k.1 l)
-
-pub kept_parts : (rules more : List Rule) → AllKept (rules ++ more) → AllKept rules × AllKept more
-kept_parts [] more k = (tt, k)
-kept_parts (r ∷ rules) more k = let p = kept_parts rules more k.1 in ((k.0, p.0), p.1)

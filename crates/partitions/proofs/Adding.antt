@@ -10,7 +10,7 @@ use Rattle.partitions.specs.Adds.{Adds}
 use Rattle.partitions.specs.DraftFaults.{told}
 use Rattle.partitions.specs.Fields.{PaperField}
 use Rattle.partitions.specs.declared.fault.DraftFault.{DraftFault}
-use Rattle.partitions.proofs.Ruled.{kept_join, broken_front, broken_back}
+use Rattle.faults.proofs.Firsts.{kept_join, broken_front, broken_back}
 
 module _ (fs : List PaperField) (f : PaperField) where
   abbrev used : List Rule

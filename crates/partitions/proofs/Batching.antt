@@ -13,7 +13,7 @@ use Rattle.partitions.specs.declared.batch.BatchField.{BatchField}
 use Rattle.partitions.specs.declared.batch.BatchCause.{BatchCause}
 use Rattle.transforms.specs.declared.transform.Transform.TheVariants.{Identity}
 use Rattle.partitions.proofs.Finding.{never}
-use Rattle.partitions.proofs.Ruled.{keeps, same_told}
+use Rattle.faults.proofs.Firsts.{keeps, same_told}
 
 pub placed_entry : (area name : List ℕ) (b : BatchField) → Some name ≡ placed b.name.start b.name.length area
     → entry area b ≡ Some (field_of b.source_id b.field_id name b.transform)

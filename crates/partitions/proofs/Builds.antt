@@ -13,7 +13,7 @@ use Rattle.partitions.specs.Buildable.{Buildable, Built, BuildableExactlyWhenBui
 use Rattle.partitions.specs.Fields.{PaperField, Named, AlikeOn, HasStatedId}
 use Rattle.partitions.specs.Places.{Nowhere, Apart}
 use Rattle.partitions.proofs.Finding.{no_first, nowhere_from, nowhere_not, nowhere_since}
-use Rattle.partitions.proofs.Ruled.{keeps, keeps_at, kept_join}
+use Rattle.faults.proofs.Firsts.{keeps, keeps_at, kept_join}
 
 module _ {X : Type 0} (C : X → X → Type 0) where
   pub apart_none : Apart C []

@@ -7,7 +7,7 @@ use Rattle.partitions.specs.Fields.{PaperField, Named, AlikeOn, HasId, HasStated
 use Rattle.partitions.specs.Places.{Nowhere, Somewhere, FirstAt}
 use Rattle.partitions.specs.declared.fault.DraftFault.TheVariants.{Alike, Full}
 use Rattle.partitions.proofs.Finding.{no_first, nowhere_not}
-use Rattle.partitions.proofs.Ruled.{keeps, keeps_at}
+use Rattle.faults.proofs.Firsts.{keeps, keeps_at}
 
 module _ (fs : List PaperField) (f : PaperField) where
   pub alike_first : (i : ℕ) → Nowhere (Named f.name) fs → FirstAt (AlikeOn f.source f.transform) fs i → FirstBroken (used_rules fs f) (told (Alike i))

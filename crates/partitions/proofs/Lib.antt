@@ -1,5 +1,4 @@
 pub mod Finding
-pub mod Ruled
 pub mod Judging
 pub mod Papers
 pub mod Builds

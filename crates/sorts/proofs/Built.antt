@@ -1,7 +1,7 @@
 -- What a build on a schema ensures, where it refuses and where it accepts.
 use Rattle.std.proofs.Common.{◌≡◌, List, IsErrAnd, IfOk, Ok, Err, Result, sym, refl, subst}
 use Rattle.faults.specs.Rules.{FirstBroken, AllKept}
-use Rattle.faults.proofs.Firsts.{broken_before, broken_later, kept_both}
+use Rattle.faults.proofs.Firsts.{broken_front, broken_back, kept_join}
 use Rattle.schemas.specs.Columns.{Columns}
 use Rattle.schemas.proofs.Lookups.{same_columns}
 use Rattle.sorts.specs.declared.sort.SortField.{SortField}
@@ -34,17 +34,17 @@ module _ (c : Columns) (draft : Draft) (before : Order) (fields : List SortField
   pub id_refused : (fault : SortFault) (r : Result (Unit {0}) SortFault) → IsErrAnd r (λ f. f ≡ fault) → FirstBroken (order_rules draft.id fields) (told fault) → Built c draft before before r
   id_refused fault r e b =
       refused c draft before fault r e
-      (broken_before (order_rules draft.id draft.fields) (each_field_rules c draft.fields) (told fault) (subst (λ fs. FirstBroken (order_rules draft.id fs) (told fault)) is b))
+      (broken_front (told fault) (order_rules draft.id draft.fields) (each_field_rules c draft.fields) (subst (λ fs. FirstBroken (order_rules draft.id fs) (told fault)) is b))
 
   pub field_refused : (fault : SortFault) (r : Result (Unit {0}) SortFault) → IsErrAnd r (λ f. f ≡ fault)
       → AllKept (order_rules draft.id fields) → FirstBroken (each_field_rules c fields) (told fault) → Built c draft before before r
   field_refused fault r e k b =
       refused c draft before fault r e
-      (broken_later (order_rules draft.id draft.fields) (each_field_rules c draft.fields) (told fault)
+      (broken_back (told fault) (order_rules draft.id draft.fields) (each_field_rules c draft.fields)
       (subst (λ fs. AllKept (order_rules draft.id fs)) is k) (subst (λ fs. FirstBroken (each_field_rules c fs) (told fault)) is b))
 
   pub accepted : (after : Order) → AllKept (order_rules draft.id fields) → AllKept (each_field_rules c fields) → after ≡ closed draft → Built c draft before after (Ok tt)
   accepted after k l filled =
       let each : AllKept (each_field_rules c draft.fields) = subst (λ fs. AllKept (each_field_rules c fs)) is l in
-      let all : AllKept (build_rules c draft.id draft.fields) = kept_both (order_rules draft.id draft.fields) (each_field_rules c draft.fields) (subst (λ fs. AllKept (order_rules draft.id fs)) is k) each in
+      let all : AllKept (build_rules c draft.id draft.fields) = kept_join (order_rules draft.id draft.fields) (each_field_rules c draft.fields) (subst (λ fs. AllKept (order_rules draft.id fs)) is k) each in
       record { built = (all, filled); fit = subst (FitOnEverySchemaThatShowsTheSame c) (sym filled) (fit_on_every c draft.fields each); alike = same_on_every c draft (Ok tt) all }

@@ -2,7 +2,7 @@
 use Rattle.std.proofs.Common.{ℕ, ◌+◌, ◌<◌, ◌≤◌, List, ◌∷◌, length, get_or, drop, pos, Ok, Err, Result, sym, subst}
 use Rattle.std.proofs.lemmas.List.{at_drop_all, at_drop_more}
 use Rattle.faults.specs.Rules.{FirstBroken, AllKept}
-use Rattle.faults.proofs.Firsts.{broken_before, broken_later, kept_both}
+use Rattle.faults.proofs.Firsts.{broken_front, broken_back, kept_join}
 use Rattle.schemas.specs.Columns.{Columns}
 use Rattle.transforms.specs.declared.transform.Transform.TheVariants.{Identity}
 use Rattle.sorts.specs.declared.sort.NullOrder.TheVariants.{First}
@@ -27,11 +27,11 @@ module _ (c : Columns) (fields : List SortField) (i : ℕ) (left : Left c fields
   from_next d lt r a = left r (subst (λ fs. Answers (each_field_rules c fs) r) (sym (at_drop_more (λ fs. fs) fields i d lt)) a)
 
   pub left_refused : (d : SortField) → i < length fields → (fault : SortFault) → FirstBroken (field_rules c (get_or fields i d)) (told fault) → FirstBroken (each_field_rules c fields) (told fault)
-  left_refused d lt fault b = from_next d lt (Err fault) (broken_before (field_rules c (get_or fields i d)) (each_field_rules c (drop (i + 1) fields)) (told fault) b)
+  left_refused d lt fault b = from_next d lt (Err fault) (broken_front (told fault) (field_rules c (get_or fields i d)) (each_field_rules c (drop (i + 1) fields)) b)
 
   pub left_more : (d : SortField) → i < length fields → AllKept (field_rules c (get_or fields i d)) → Left c fields (i + 1)
-  left_more d lt k (Ok x) a = from_next d lt (Ok x) (kept_both (field_rules c (get_or fields i d)) (each_field_rules c (drop (i + 1) fields)) k a)
-  left_more d lt k (Err f) a = from_next d lt (Err f) (broken_later (field_rules c (get_or fields i d)) (each_field_rules c (drop (i + 1) fields)) (told f) k a)
+  left_more d lt k (Ok x) a = from_next d lt (Ok x) (kept_join (field_rules c (get_or fields i d)) (each_field_rules c (drop (i + 1) fields)) k a)
+  left_more d lt k (Err f) a = from_next d lt (Err f) (broken_back (told f) (field_rules c (get_or fields i d)) (each_field_rules c (drop (i + 1) fields)) k a)
 
   pub left_none : length fields ≤ i → AllKept (each_field_rules c fields)
   left_none le = left (Ok tt) (subst (λ fs. AllKept (each_field_rules c fs)) (sym (at_drop_all (λ fs. fs) fields i le)) tt)

@@ -2,7 +2,7 @@
 use Rattle.std.proofs.Common.{◌≡◌, Bool, true, false, List, [], ◌∷◌, is_some, IsSomeAnd, Some, None, Option, refl, subst}
 use Rattle.std.specs.List.{AllByRecursion}
 use Rattle.faults.specs.Rules.{AllKept}
-use Rattle.faults.proofs.Firsts.{kept_parts}
+use Rattle.faults.proofs.Firsts.{kept_front, kept_back}
 use Rattle.transforms.specs.Results.{result_of}
 use Rattle.schemas.specs.declared.schema.Column.{Column}
 use Rattle.schemas.specs.Columns.{Columns, Same, is_primitive}
@@ -31,7 +31,7 @@ fits c field k = by_source c field (c.by_id field.source_id) refl (k.0 None) (k.
 
 all_fit : (c : Columns) (fields : List SortField) → AllKept (each_field_rules c fields) → AllByRecursion (Fits c) fields
 all_fit c [] k = tt
-all_fit c (field ∷ fields) k = let p = kept_parts (field_rules c field) (each_field_rules c fields) k in (fits c field p.0, all_fit c fields p.1)
+all_fit c (field ∷ fields) k = let own = kept_front (field_rules c field) (each_field_rules c fields) k in let rest = kept_back (field_rules c field) (each_field_rules c fields) k in (fits c field own, all_fit c fields rest)
 
 pub fit_on_every : (c : Columns) (fields : List SortField) → AllKept (each_field_rules c fields) → (d : Columns) → Same c d → AllByRecursion (Fits d) fields
 fit_on_every c fields k d s = subst (λ e. AllByRecursion (Fits e) fields) (same_columns c d s) (all_fit c fields k)

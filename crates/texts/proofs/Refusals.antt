@@ -2,7 +2,7 @@
 use Rattle.std.proofs.Common.{◌≡◌, ℕ, cond, eqb, List, ◌++◌, Some, None, Ok, Err, codes, Option, sym, refl, ap, ◌∙◌, subst, inl, inr}
 use Rattle.std.specs.Option.{ok_or}
 use Rattle.faults.specs.Rules.{Rule, rule, FirstBroken, Kept, AllKept}
-use Rattle.faults.proofs.Firsts.{kept, first_number}
+use Rattle.faults.proofs.Firsts.{keeps, first_number}
 use Rattle.transforms.specs.declared.transform.Transform.{Transform}
 use Rattle.texts.specs.declared.fault.TextFault.{TextFault}
 use Rattle.texts.specs.declared.fault.TextFault.TheVariants.{WordUnknown, WidthMissing, WidthNonDigit, WidthOverflow, NotPrinted}
@@ -31,10 +31,10 @@ fault_only rules f g p q = numbered f ∙ ap by_number (first_number rules (told
 -- a rule on what the brackets hold is kept where they hold something else
 kept_wide : (n : ℕ) (P : List ℕ → Type 0) (text bare : List ℕ) → Wide text bare → (P bare → ⊥) → Kept (rule n ((b : List ℕ) × (Wide text b × P b)))
 kept_wide n P text bare w unlike =
-    kept n ((b : List ℕ) × (Wide text b × P b)) (λ b. unlike (subst P (wide_only text b.0 bare b.1.0 w) b.1.1))
+    keeps n ((b : List ℕ) × (Wide text b × P b)) (λ b. unlike (subst P (wide_only text b.0 bare b.1.0 w) b.1.1))
 
 known : (text bare : List ℕ) → Wide text bare → Kept (rule 4 (NoWord text))
-known text bare w = kept 4 (NoWord text) (wide_known text bare w)
+known text bare w = keeps 4 (NoWord text) (wide_known text bare w)
 
 pub refused_width : (text bare : List ℕ) → Wide text bare → (f : TextFault) → BareReading bare (Err f) → FirstBroken (text_rules text) (told f)
 refused_width text bare w WordUnknown b = absurd b
@@ -66,11 +66,11 @@ fixed_or_unknown text None f b c = inl (refl, record { fixed = f; bucket = b; tr
 -- a rule on what the brackets hold is kept where they hold a width
 unbroken : (n : ℕ) (P : List ℕ → Type 0) (text : List ℕ) (t : Transform) → Spells text t → ((bare : List ℕ) → P bare → (m : ℕ) → SpellsWidth bare m → ⊥) → Kept (rule n ((b : List ℕ) × (Wide text b × P b)))
 unbroken n P text t s apart =
-    kept n ((b : List ℕ) × (Wide text b × P b)) (λ b. let m = spells_wide text t s b.0 b.1.0 in apart b.0 b.1.1 m.0 m.1)
+    keeps n ((b : List ℕ) × (Wide text b × P b)) (λ b. let m = spells_wide text t s b.0 b.1.0 in apart b.0 b.1.1 m.0 m.1)
 
 -- a text that spells a transform breaks no rule
 pub spells_kept : (text : List ℕ) (t : Transform) → Spells text t → AllKept (text_rules text)
 spells_kept text t s = (
-  kept 4 (NoWord text) (spells_known text t s),
+  keeps 4 (NoWord text) (spells_known text t s),
   (unbroken 5 Missing text t s missing_or_spelt, (unbroken 6 Strange text t s strange_or_spelt, (unbroken 7 TooLarge text t s large_or_spelt, tt))),
 )

@@ -4,7 +4,7 @@ use Rattle.std.proofs.lemmas.List.{length-map}
 use Rattle.std.proofs.lemmas.Int.{to_z-of_z}
 use Rattle.faults.specs.Rules.{AllKept}
 use Rattle.partitions.specs.Fields.{PaperField}
-use Rattle.partitions.proofs.Ruled.{not_both}
+use Rattle.faults.proofs.Firsts.{not_both}
 use Rattle.closed.specs.Opened.{opened, openeds}
 use Rattle.closed.specs.TypeFaults.{told}
 use Rattle.closed.specs.Typing.{Typed, field_rules}
