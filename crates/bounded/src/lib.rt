@@ -53,7 +53,7 @@ impl<T: Drop, const MAX: usize> Bounded<T, MAX> {
     }
 
     pub fn as_slice(&self) -> &[T]
-        ensures same { result.now ≡ self.now }
+        ensures value { result.now ≡ self.now }
         ensures few { length result.now ≤ MAX }
     {
         self.items.as_slice()
