@@ -1,6 +1,6 @@
 -- Orders are equal exactly when their ids and their fields are, as `==` tells of two ids and of two fields.
-use Rattle.std.proofs.Common.{◌≡◌, Bool, true, List, Decides, sym, ap, ◌∙◌, subst, arith, vec_items}
-use Rattle.std.specs.Cmp.Lexicographic.{pointwise, pointwise_decides}
+use Rattle.std.proofs.Common.{◌≡◌, Bool, true, Decides, ap, subst, arith}
+use Rattle.std.specs.Cmp.Lexicographic.{pointwise_decides}
 use Rattle.std.proofs.lemmas.Bool.Decides.{Decides-at, Decides-like, Decides-and, Decides-int_eq}
 use Rattle.transforms.proofs.Equality.{transform_eq-Decides}
 use Rattle.sorts.specs.declared.sort.SortField.{SortField}
@@ -38,20 +38,14 @@ module _ (x y : SortField) where
       Decides-like _ parts (λ e. (ap (λ f. f.source_id) e, (ap (λ f. f.transform) e, (ap (λ f. f.direction) e, ap (λ f. f.null_order) e))))
       (Decides-and _ _ (Decides-int_eq x.source_id y.source_id) (Decides-and _ _ (transform_eq-Decides x.transform y.transform) (Decides-and _ _ directions nulls)))
 
-fields_decide : (xs ys : List SortField) (r : Bool) → r ≡ pointwise field.eq xs ys → Decides r (xs ≡ ys)
-fields_decide xs ys r e = Decides-at r _ e (pointwise_decides field_decides xs ys)
-
-pub same_order : (x y : Order) → x.id ≡ y.id → x.fields ≡ y.fields → x ≡ y
+same_order : (x y : Order) → x.id ≡ y.id → x.fields ≡ y.fields → x ≡ y
 same_order x y ids fields = λ i. record { id = ids i; fields = fields i }
-
--- two orders with equal ids, whose fields are compared as they are read
-pub order_decides : (x y : Order) (read other : List SortField) (r : Bool) → x.id ≡ y.id → read ≡ x.fields → other ≡ y.fields → r ≡ pointwise field.eq read other → Decides r (x ≡ y)
-order_decides x y read other r ids p q m =
-    let d = fields_decide read other r m in
-    (λ t. same_order x y ids (sym p ∙ d.0 t ∙ q), λ e. d.1 (p ∙ ap (λ o. o.fields) e ∙ sym q))
 
 pub orders_decided : (x y : SortOrder) → Decides (order_eq x y) (order_of x ≡ order_of y)
 orders_decided x y =
-    Decides-like _ (λ (p : (x.order_id ≡ y.order_id) × (vec_items x.fields ≡ vec_items y.fields)). same_order (order_of x) (order_of y) p.0 p.1)
+    Decides-like _ (λ (p : (x.order_id ≡ y.order_id) × (x.fields ≡ y.fields)). same_order (order_of x) (order_of y) p.0 p.1)
     (λ e. (ap (λ (o : Order). o.id) e, ap (λ (o : Order). o.fields) e))
-    (Decides-and _ _ (Decides-int_eq x.order_id y.order_id) (pointwise_decides field_decides (vec_items x.fields) (vec_items y.fields)))
+    (Decides-and _ _ (Decides-int_eq x.order_id y.order_id) (pointwise_decides field_decides x.fields y.fields))
+
+pub decided : (x y : SortOrder) (r : Bool) → r ≡ order_eq x y → Decides r (order_of x ≡ order_of y)
+decided x y r e = Decides-at r _ e (orders_decided x y)

@@ -1,15 +1,13 @@
 -- The id 0 is the unsorted order's alone, where the rules of an id are kept.
-use Rattle.std.proofs.Common.{◌≡◌, ℕ, Bool, true, false, eqb, List, [], ◌∷◌, length, ℤ, pos, Some, None, Decides, Option, sym, refl, ap, ◌∙◌, subst, ⊎_elim, arith, eq-eqb}
-use Rattle.std.proofs.lemmas.List.{nil_from_length}
-use Rattle.std.proofs.lemmas.Bool.{cases_lt, eqb-true}
+use Rattle.std.proofs.Common.{◌≡◌, ℕ, Bool, true, false, List, [], ◌∷◌, length, ℤ, pos, Some, None, Decides, Option, sym, refl, ap, subst, ⊎_elim, arith}
+use Rattle.std.proofs.lemmas.Bool.{cases_lt}
 use Rattle.faults.specs.Rules.{AllKept}
 use Rattle.schemas.proofs.Identity.{same_decides}
 use Rattle.schemas.specs.Ids.{same}
 use Rattle.sorts.specs.declared.sort.SortField.{SortField}
-use Rattle.sorts.specs.Drafts.{Order, order_id, unsorted}
+use Rattle.sorts.specs.Drafts.{order_id}
 use Rattle.sorts.specs.SortRules.{order_rules}
 use Rattle.sorts.specs.Zero.{ZeroIsUnsorted}
-use Rattle.sorts.proofs.Equality.{same_order}
 
 by_test : {P : Type 0} (b : Bool) → Decides b P → ((P → ⊥) → ⊥) → P
 by_test true d n = d.0 refl
@@ -26,10 +24,3 @@ zero_alone None (field ∷ fields) k = (λ e. let z : ◌≡◌ {A = ℕ} 0 1 = 
 -- by what a draft states, and as an order then holds it
 pub zero_after : (id : Option ℤ) (fields : List SortField) (own : ℤ) (owned : List SortField) → AllKept (order_rules id fields) → own ≡ order_id id fields → owned ≡ fields → ZeroIsUnsorted own owned
 zero_after id fields own owned k p q = subst (λ i. ZeroIsUnsorted i owned) (sym p) (subst (ZeroIsUnsorted (order_id id fields)) (sym q) (zero_alone id fields k))
-
--- an order, and the count of its fields as it is read
-pub unsorted_decides : (order : Order) (n : ℕ) (r : Bool) → ZeroIsUnsorted order.id order.fields → n ≡ length order.fields → r ≡ eqb n 0 → Decides r (order ≡ unsorted)
-unsorted_decides order n r z m e = (
-  λ t. let none : length order.fields ≡ 0 = sym m ∙ eqb-true n 0 (sym e ∙ t) in same_order order unsorted (z.1 none) (nil_from_length order.fields none),
-  λ u. e ∙ eq-eqb n 0 (m ∙ ap (λ (o : Order). length o.fields) u),
-)

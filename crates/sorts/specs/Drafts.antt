@@ -1,5 +1,5 @@
 -- Drafts and orders by what they hold, and what the calls that change one do. Assumes nothing.
-use Rattle.std.specs.Prelude.{◌≡◌, List, [], ◌∷◌, ◌++◌, ℤ, pos, Some, None, vec_items, Option, Result, MatchResult}
+use Rattle.std.specs.Prelude.{◌≡◌, List, [], ◌∷◌, ◌++◌, ℤ, pos, Some, None, Option, Result, MatchResult}
 use Rattle.faults.specs.Rules.{Rule, FirstBroken, AllKept}
 use Rattle.schemas.specs.Columns.{Columns}
 use Rattle.sorts.specs.declared.sort.SortField.{SortField}
@@ -17,10 +17,10 @@ pub record Order : Type 0 where
   pub fields : List SortField
 
 abbrev pub draft_of : SortOrderBuilder → Draft
-draft_of draft = record { id = draft.order_id; fields = vec_items draft.fields }
+draft_of draft = record { id = draft.order_id; fields = draft.fields }
 
 abbrev pub order_of : SortOrder → Order
-order_of order = record { id = order.order_id; fields = vec_items order.fields }
+order_of order = record { id = order.order_id; fields = order.fields }
 
 abbrev pub blank : Draft
 blank = record { id = None; fields = [] }

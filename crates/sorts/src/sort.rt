@@ -1,7 +1,7 @@
 // Sort fields, drafts of sort orders, and sort orders.
-ghost use Rattle.std.specs.Prelude.{◌≤◌, vec_len, vec_capacity};
 ghost use Rattle.sorts.specs.Zero.{ZeroIsUnsorted};
 
+use bounded::Bounded;
 use transforms::transform::Transform;
 
 mod builder;
@@ -50,17 +50,13 @@ pub enum SortFault {
 #[derive(Drop)]
 pub struct SortOrderBuilder {
     order_id: Option<i64>,
-    fields: Vec<SortField>,
-    ghost few: { vec_len fields ≤ 64 },
-    ghost room: { 64 ≤ vec_capacity fields },
+    fields: Bounded<SortField, MAX_FIELDS>,
 }
 
 // The rows stand by the first field, those that are equal there by the second, and so on.
 #[derive(Drop)]
 pub struct SortOrder {
     order_id: i64,
-    fields: Vec<SortField>,
-    ghost few: { vec_len fields ≤ 64 },
-    ghost room: { 64 ≤ vec_capacity fields },
-    ghost zero: { ZeroIsUnsorted order_id fields.items },
+    fields: Bounded<SortField, MAX_FIELDS>,
+    ghost zero: { ZeroIsUnsorted order_id fields },
 }

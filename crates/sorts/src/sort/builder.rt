@@ -6,7 +6,8 @@ ghost use Rattle.sorts.specs.Promises.{FitOnEverySchemaThatShowsTheSame, SameAns
 ghost use Rattle.sorts.specs.SortRules.{order_rules};
 
 use super::check::{check_fields, check_order_id};
-use super::{MAX_FIELDS, SortFault, SortField, SortOrder, SortOrderBuilder};
+use super::{SortFault, SortField, SortOrder, SortOrderBuilder};
+use bounded::Bounded;
 use schemas::schema::Schema;
 use std::alloc::{AllocError, Global};
 
@@ -15,7 +16,7 @@ impl SortOrderBuilder {
     pub fn new(heap: Global) -> Result<SortOrderBuilder, AllocError>
         ensures { IfOk result (λ draft. draft_of draft ≡ blank) }
     {
-        let fields = Vec::with_capacity(heap, MAX_FIELDS)?;
+        let fields = Bounded::new(heap)?;
         Ok(SortOrderBuilder {
             order_id: None,
             fields,
@@ -32,11 +33,7 @@ impl SortOrderBuilder {
     pub fn with_sort_field(&mut self, field: SortField) -> Result<(), SortFault>
         ensures { Adds field (draft_of self.old) (draft_of self.new) result }
     {
-        if self.fields.len() >= MAX_FIELDS {
-            return Err(SortFault::Full);
-        }
-        self.fields.push_reserved(field);
-        Ok(())
+        self.fields.push(field).map_err(|_| SortFault::Full)
     }
 
     // Fills the order, whatever the schema.
@@ -49,6 +46,7 @@ impl SortOrderBuilder {
     }
 
     // Fills the order, where each field suits the schema.
+    #[tactic(auto, using(crate::proofs::Fitting::fit_on_every))]
     pub fn build<S: Schema>(&self, schema: &S, order: &mut SortOrder) -> Result<(), SortFault>
         ensures built { BuildsOn (S.Schema.columns schema.now) (draft_of self.now) (order_of order.old) (order_of order.new) result }
         ensures fit { OnOk result (FitOnEverySchemaThatShowsTheSame (S.Schema.columns schema.now) (order_of order.new)) }
@@ -61,24 +59,20 @@ impl SortOrderBuilder {
         Ok(())
     }
 
+    #[tactic(auto, using(crate::proofs::Zeros::zero_after))]
     fn fill(&self, order: &mut SortOrder)
         requires { AllKept (order_rules (draft_of self.now).id (draft_of self.now).fields) }
         ensures { order_of order.new ≡ closed (draft_of self.now) }
     {
         order.order_id = self.closing_id();
-        order.fields.clear();
-        // there is room, so this is never refused
-        let _ = order.fields.extend_from_slice(self.fields.as_slice());
+        order.fields.copy_from(&self.fields);
     }
 
     // An id that is not stated is 1, or 0 where there are no fields.
     fn closing_id(&self) -> i64
         ensures { result ≡ (closed (draft_of self.now)).id }
     {
-        match self.order_id {
-            Some(order_id) => order_id,
-            None if self.fields.is_empty() => 0,
-            None => 1,
-        }
+        let unstated = if self.fields.is_empty() { 0 } else { 1 };
+        self.order_id.unwrap_or(unstated)
     }
 }

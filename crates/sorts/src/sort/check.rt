@@ -30,15 +30,15 @@ impl SortField {
     fn check<S: Schema>(&self, schema: &S) -> Result<(), SortFault>
         ensures { Answers (field_rules (S.Schema.columns schema.now) self.now) result }
     {
-        let Some(source) = schema.field_by_id(self.source_id) else {
-            return Err(SortFault::SourceUnknown);
-        };
+        let source = schema
+            .field_by_id(self.source_id)
+            .ok_or(SortFault::SourceUnknown)?;
         if !matches!(source.field_type, Type::Primitive(_)) {
             return Err(SortFault::SourceNotPrimitive);
         }
-        if self.transform.result_type(&source.field_type).is_err() {
-            return Err(SortFault::SourceUnfit);
-        }
+        self.transform
+            .result_type(&source.field_type)
+            .map_err(|_| SortFault::SourceUnfit)?;
         Ok(())
     }
 }

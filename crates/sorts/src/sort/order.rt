@@ -3,7 +3,8 @@ ghost use Rattle.std.specs.Prelude.{◌≡◌, ◌≤◌, length, IfOk, Decides}
 ghost use Rattle.sorts.specs.Drafts.{order_of, unsorted};
 ghost use Rattle.sorts.specs.Zero.{ZeroIsUnsorted};
 
-use super::{MAX_FIELDS, SortField, SortOrder};
+use super::{SortField, SortOrder};
+use bounded::Bounded;
 use std::alloc::{AllocError, Global};
 
 impl SortOrder {
@@ -11,7 +12,7 @@ impl SortOrder {
     pub fn new(heap: Global) -> Result<SortOrder, AllocError>
         ensures { IfOk result (λ order. order_of order ≡ unsorted) }
     {
-        let fields = Vec::with_capacity(heap, MAX_FIELDS)?;
+        let fields = Bounded::new(heap)?;
         Ok(SortOrder {
             order_id: 0,
             fields,
