@@ -5,7 +5,7 @@ use mathlib.Core.Logic.{∥∥₁_elim}
 use Rattle.std.proofs.lemmas.List.{take_all}
 use Rattle.std.proofs.lemmas.Bool.{cases_lt}
 use Rattle.faults.specs.Rules.{AllKept}
-use Rattle.faults.proofs.Firsts.{keeps, keeps_at}
+use Rattle.faults.proofs.Firsts.{keeps as kept_rule, keeps_at}
 use Rattle.names.specs.WellFormed.{WellFormed, Front}
 use Rattle.names.specs.Machine.{Due}
 use Rattle.names.specs.GoodName.{GoodName}
@@ -55,9 +55,9 @@ no_front bs none =
 
 pub keeps : (name : List ℕ) → GoodName name → AllKept (name_rules name)
 keeps name g = (
-  keeps 1 (length name ≡ 0) (λ e. omega (arith, g.some)),
+  kept_rule 1 (length name ≡ 0) (λ e. omega (arith, g.some)),
   (
-    keeps 2 (128 < length name) (λ l. omega (arith, g.short)),
+    kept_rule 2 (128 < length name) (λ l. omega (arith, g.short)),
     (keeps_at 3 (λ n. Front name n) (λ n f. f.longest (length name) f.short (omega arith) (subst WellFormed (sym (all name)) g.well_formed)), tt),
   ),
 )

@@ -1,5 +1,5 @@
 -- `==` of fields and of slices of them, compared by a view of them. Assumes nothing.
-use Rattle.std.proofs.Common.{◌≡◌, Bool, List, [], ◌∷◌, map, ℤ, Some, None, vec_items, Decides, sym, refl, ap, ◌∙◌}
+use Rattle.std.proofs.Common.{◌≡◌, Bool, List, [], ◌∷◌, map, ℤ, Some, None, Decides, sym, refl, ap, ◌∙◌}
 use Rattle.std.specs.Cmp.Lexicographic.{pointwise, bytes_decides}
 use Rattle.std.specs.Option.{option_eq}
 use Rattle.std.specs.Ordering.{int_eq}
@@ -60,6 +60,6 @@ fields_computed xs ys us vs r p q e =
 pub spec_eq-Decides : (x y : UnboundPartitionSpec) → Decides (spec_eq x y) (paper_spec x ≡ paper_spec y)
 spec_eq-Decides x y =
     Decides-like _
-    (λ (p : (x.spec_id ≡ y.spec_id) × (papers (vec_items x.fields.fields) ≡ papers (vec_items y.fields.fields))) i. record { spec_id = p.0 i; fields = p.1 i })
+    (λ (p : (x.spec_id ≡ y.spec_id) × (papers x.fields.fields ≡ papers y.fields.fields)) i. record { spec_id = p.0 i; fields = p.1 i })
     (λ e. (ap (λ (s : PaperSpec). s.spec_id) e, ap (λ (s : PaperSpec). s.fields) e))
-    (Decides-and _ _ (maybe_ids x.spec_id y.spec_id) (views paper_field field_eq fields_decided (vec_items x.fields.fields) (vec_items y.fields.fields)))
+    (Decides-and _ _ (maybe_ids x.spec_id y.spec_id) (views paper_field field_eq fields_decided x.fields.fields y.fields.fields))

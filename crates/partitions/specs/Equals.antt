@@ -1,5 +1,5 @@
 -- What `==` computes of two fields and of two specs: part by part, a name by its bytes. Assumes nothing.
-use Rattle.std.specs.Prelude.{◌≡◌, Bool, Decides, nat_eq, vec_items}
+use Rattle.std.specs.Prelude.{◌≡◌, Bool, Decides, nat_eq}
 use Rattle.std.specs.Cmp.Lexicographic.{pointwise}
 use Rattle.std.specs.Option.{option_eq}
 use Rattle.std.specs.Ordering.{int_eq, on, eq_of_both}
@@ -17,7 +17,7 @@ field_eq =
     (eq_of_both (on (λ f. name_bytes f.name) (pointwise nat_eq)) (on (λ f. f.transform) ghosts.eq)))
 
 abbrev pub spec_eq : UnboundPartitionSpec → UnboundPartitionSpec → Bool
-spec_eq = eq_of_both (on (λ s. s.spec_id) (option_eq int_eq)) (on (λ s. vec_items s.fields.fields) (pointwise field_eq))
+spec_eq = eq_of_both (on (λ s. s.spec_id) (option_eq int_eq)) (on (λ s. s.fields.fields) (pointwise field_eq))
 
 -- they are that the two are the same on paper
 abbrev pub FieldsAreEqualExactlyWhenTheSame : Type 0

@@ -39,6 +39,7 @@ impl UnboundPartitionField {
     }
 }
 
+// kept: a derive promises only `value`, and `decides` and `exactly` say what that is of the field on paper
 impl PartialEq for UnboundPartitionField {
     ghost eq = { field_eq };
 

@@ -71,6 +71,7 @@ impl UnboundPartitionSpec {
     }
 }
 
+// kept: a derive promises only `value`, and `decides` and `exactly` say what that is of the spec on paper
 impl PartialEq for UnboundPartitionSpec {
     ghost eq = { spec_eq };
 

@@ -10,7 +10,8 @@ ghost use Rattle.partitions.specs.Views.{papers, seen};
 use super::FieldList;
 use crate::fault::DraftFault;
 use crate::field::{FieldView, UnboundPartitionField};
-use crate::validator::{CorePartitionSpecValidator, MAX_FIELDS};
+use crate::validator::CorePartitionSpecValidator;
+use bounded::Bounded;
 use names::name::Name;
 use std::alloc::{AllocError, Global};
 
@@ -19,7 +20,7 @@ impl FieldList {
     pub fn new(heap: Global) -> Result<FieldList, AllocError>
         ensures { IfOk result (λ l. listed l ≡ []) }
     {
-        let fields = Vec::with_capacity(heap, MAX_FIELDS)?;
+        let fields = Bounded::new(heap)?;
         Ok(FieldList { fields })
     }
 
@@ -28,13 +29,14 @@ impl FieldList {
         ensures { Adds (listed self.old) (seen field.now) result (listed self.new) }
     {
         let name = self.check(field)?;
-        self.fields.push_reserved(UnboundPartitionField {
-            source_id: field.source_id,
-            field_id: field.field_id,
-            name,
-            transform: field.transform,
-        });
-        Ok(())
+        self.fields
+            .push(UnboundPartitionField {
+                source_id: field.source_id,
+                field_id: field.field_id,
+                name,
+                transform: field.transform,
+            })
+            .map_err(|_| DraftFault::Full)
     }
 
     // No fields; the room stays.

@@ -1,5 +1,5 @@
 -- Equal ids and equal fields, on paper.
-use Rattle.std.proofs.Common.{◌≡◌, ◌&&◌, vec_items, ap, ◌∙◌, rules}
+use Rattle.std.proofs.Common.{◌≡◌, ◌&&◌, ap, ◌∙◌, rules}
 use Rattle.std.specs.Cmp.Lexicographic.{pointwise}
 use Rattle.partitions.specs.Equals.{field_eq}
 use Rattle.partitions.specs.Specs.{paper_spec}
@@ -15,8 +15,8 @@ returns-then-eq-clause-decides c =
 
 pub returns-then-eq-clause-value : goal.returns-then-eq-clause-value
 returns-then-eq-clause-value c =
-    let fields = fields_computed c.fields.result.now c.fields-then-eq.result.now (vec_items c.args.self.now.fields.fields) (vec_items c.args.other.now.fields.fields) c.eq-then-eq.result c.fields.ensures.same c.fields-then-eq.ensures.same c.eq-then-eq.ensures in
-    fields ∙ ap (λ b. b && pointwise field_eq (vec_items c.args.self.now.fields.fields) (vec_items c.args.other.now.fields.fields)) c.if-eq.ensures
+    let fields = fields_computed c.fields.result.now c.fields-then-eq.result.now c.args.self.now.fields.fields c.args.other.now.fields.fields c.eq-then-eq.result c.fields.ensures.same c.fields-then-eq.ensures.same c.eq-then-eq.ensures in
+    fields ∙ ap (λ b. b && pointwise field_eq c.args.self.now.fields.fields c.args.other.now.fields.fields) c.if-eq.ensures
 
 pub returns-then-eq-clause-exactly : goal.returns-then-eq-clause-exactly
 returns-then-eq-clause-exactly c = spec_eq-Decides
