@@ -22,12 +22,7 @@ pub fn bind<S: Schema>(
     ensures read_back { ReadAndBoundBack (S.Schema.columns schema.now) (paper_spec unbound) spec.new result }
     ensures fit { OnOk result (FitOnEverySchemaThatShowsTheSame (S.Schema.columns schema.now) (paper_closed spec.new).fields) }
 {
-    let draft = match PartitionSpecBuilder::new_from_unbound(unbound, schema) {
-        Ok(draft) => draft,
-        Err(fault) => return Err(BindFault::Batch(fault)),
-    };
-    match draft.build(spec) {
-        Ok(()) => Ok(()),
-        Err(fault) => Err(BindFault::Draft(fault)),
-    }
+    let draft = PartitionSpecBuilder::new_from_unbound(unbound, schema)?;
+    draft.build(spec)?;
+    Ok(())
 }

@@ -1,5 +1,7 @@
 // Why an unbound spec is not bound.
+ghost use Rattle.std.specs.Prelude.{◌≡◌};
 ghost use Rattle.binding.specs.BindFaults.{told};
+ghost use Rattle.binding.specs.declared.fault.BindFault.TheVariants.{Batch, Draft};
 
 use faults::Fault;
 use faults::error::{ErrorKind, Layer};
@@ -23,5 +25,21 @@ impl Fault for BindFault {
             BindFault::Batch(fault) => fault.refusal(),
             BindFault::Draft(fault) => fault.refusal(),
         }
+    }
+}
+
+impl From<BatchFault> for BindFault {
+    ghost from_gives = { λ fault r. r ≡ Batch fault };
+
+    fn from(fault: BatchFault) -> BindFault {
+        BindFault::Batch(fault)
+    }
+}
+
+impl From<DraftFault> for BindFault {
+    ghost from_gives = { λ fault r. r ≡ Draft fault };
+
+    fn from(fault: DraftFault) -> BindFault {
+        BindFault::Draft(fault)
     }
 }

@@ -1,7 +1,8 @@
 // The type of a partition: its fields, and why there is none.
-ghost use Rattle.std.specs.Prelude.{map, Decides};
+ghost use Rattle.std.specs.Prelude.{◌≡◌, map, Decides};
 ghost use Rattle.numbering.specs.Ids.{Sequential};
 ghost use Rattle.closed.specs.TypeFaults.{told};
+ghost use Rattle.closed.specs.declared.types.TypeFault.TheVariants.{NoResult};
 
 use faults::Fault;
 use faults::error::{ErrorKind, Layer};
@@ -53,5 +54,13 @@ impl Fault for TypeFault {
             TypeFault::NoResult(fault) => return fault.refusal(),
         };
         Refusal::new(number, kind, Layer::Type, reason)
+    }
+}
+
+impl From<TransformFault> for TypeFault {
+    ghost from_gives = { λ fault r. r ≡ NoResult fault };
+
+    fn from(fault: TransformFault) -> TypeFault {
+        TypeFault::NoResult(fault)
     }
 }

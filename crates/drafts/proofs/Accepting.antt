@@ -9,10 +9,10 @@ use Rattle.names.specs.NameRules.{name_rules}
 use Rattle.schemas.specs.Columns.{Columns}
 use Rattle.partitions.specs.AddRules.{add_rules, used_rules, last_rules}
 use Rattle.partitions.specs.Batches.{given}
-use Rattle.drafts.specs.Batches.{entry_rules, EachKept, RefusedAt}
+use Rattle.partitions.specs.Batches.{entry_rules, EachKept, RefusedAt}
 use Rattle.partitions.specs.Buildable.{Buildable}
 use Rattle.partitions.specs.Fields.{PaperField}
-use Rattle.drafts.proofs.Batching.{there_kept, there_broken}
+use Rattle.partitions.proofs.Batching.{there_kept, there_broken}
 use Rattle.partitions.proofs.Builds.{built}
 use Rattle.faults.proofs.Firsts.{kept_join, kept_front, kept_back, broken_front, broken_back}
 use Rattle.drafts.specs.BoundAdds.{NotAdmittedAt}

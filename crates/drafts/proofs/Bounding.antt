@@ -8,12 +8,12 @@ use Rattle.names.proofs.Good as good
 use Rattle.schemas.specs.Columns.{Columns}
 use Rattle.partitions.specs.AddRules.{used_rules, last_rules, Judged}
 use Rattle.partitions.specs.Adds.{Adds}
-use Rattle.drafts.specs.Batches.{AddsEntry}
+use Rattle.partitions.specs.Batches.{AddsEntry}
 use Rattle.partitions.specs.DraftFaults.{told}
 use Rattle.partitions.specs.Fields.{PaperField}
 use Rattle.partitions.specs.declared.batch.BatchCause.TheVariants.{Add}
 use Rattle.partitions.specs.declared.fault.DraftFault.{DraftFault}
-use Rattle.drafts.proofs.Batching.{there_kept, there_broken, there_given}
+use Rattle.partitions.proofs.Batching.{there_kept, there_broken, there_given}
 use Rattle.faults.proofs.Firsts.{kept_join, kept_front, kept_back, broken_front, broken_back, broken_after}
 use Rattle.drafts.specs.BoundAdds.{Becomes, AddsBound, AddsNamed}
 use Rattle.drafts.specs.SourceRules.{source_rules, early_rules, bound_rules}

@@ -7,7 +7,7 @@ use Rattle.faults.proofs.Firsts.{first_number}
 use Rattle.names.specs.WellFormed.{Front}
 use Rattle.schemas.specs.Columns.{Columns}
 use Rattle.partitions.specs.Batches.{given}
-use Rattle.drafts.specs.Batches.{rules_unless_none, entry_rules, RefusedAt}
+use Rattle.partitions.specs.Batches.{rules_unless_none, entry_rules, RefusedAt}
 use Rattle.partitions.specs.Fields.{PaperField, Named, AlikeOn}
 use Rattle.partitions.specs.Places.{FirstAt}
 use Rattle.faults.proofs.Firsts.{not_both}

@@ -1,4 +1,3 @@
-pub mod Batching
 pub mod Bounding
 pub mod Admitting
 pub mod Histories

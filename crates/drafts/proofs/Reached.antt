@@ -15,7 +15,7 @@ use Rattle.schemas.specs.Columns.{Columns, is_primitive}
 use Rattle.schemas.specs.declared.schema.Column.{Column}
 use Rattle.partitions.specs.AddRules.{used_rules, last_rules}
 use Rattle.partitions.specs.Batches.{given}
-use Rattle.drafts.specs.Batches.{rules_unless_none, EachKept}
+use Rattle.partitions.specs.Batches.{rules_unless_none, EachKept}
 use Rattle.partitions.specs.Fields.{PaperField}
 use Rattle.faults.proofs.Firsts.{kept_front, kept_back}
 use Rattle.drafts.specs.BoundAdds.{on_named, named_rules}

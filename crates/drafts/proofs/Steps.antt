@@ -5,7 +5,7 @@ use Rattle.names.specs.declared.name.NameFault.{NameFault}
 use Rattle.names.specs.declared.name.NameFault.TheVariants.{Empty, Long, NotUtf8}
 use Rattle.names.specs.NameRules.{told as nameTold}
 use Rattle.schemas.specs.Columns.{Columns}
-use Rattle.drafts.specs.Batches.{AddsAll}
+use Rattle.partitions.specs.Batches.{AddsAll}
 use Rattle.partitions.specs.DraftFaults.{told}
 use Rattle.partitions.specs.Fields.{PaperField}
 use Rattle.partitions.specs.declared.batch.BatchFault.{BatchFault}

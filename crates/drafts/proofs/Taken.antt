@@ -3,7 +3,7 @@ use Rattle.std.proofs.Common.{◌≡◌, List, [], ◌∷◌, ◌++◌, map, ℤ
 use Rattle.std.specs.List.{AllByRecursion}
 use Rattle.schemas.specs.Columns.{Columns}
 use Rattle.partitions.specs.BatchFaults.{batch_told}
-use Rattle.drafts.specs.Batches.{RefusedAt}
+use Rattle.partitions.specs.Batches.{RefusedAt}
 use Rattle.partitions.specs.Buildable.{Buildable}
 use Rattle.partitions.specs.Fields.{PaperField, PaperSpec}
 use Rattle.partitions.specs.declared.batch.BatchFault.{BatchFault}

@@ -7,7 +7,7 @@ use Rattle.faults.specs.Told.{Told}
 use Rattle.transforms.specs.declared.transform.Transform.{Transform}
 use Rattle.schemas.specs.Columns.{Columns}
 use Rattle.partitions.specs.BatchFaults.{batch_told}
-use Rattle.drafts.specs.Batches.{rules_unless_none}
+use Rattle.partitions.specs.Batches.{rules_unless_none}
 use Rattle.partitions.specs.DraftFaults.{told}
 use Rattle.partitions.specs.Fields.{PaperField, field_of}
 use Rattle.partitions.specs.declared.batch.BatchFault.{BatchFault}

@@ -7,7 +7,7 @@ use Rattle.faults.specs.Told.{Told}
 use Rattle.transforms.specs.declared.transform.Transform.{Transform}
 use Rattle.schemas.specs.Columns.{Columns, Same}
 use Rattle.partitions.specs.Batches.{given}
-use Rattle.drafts.specs.Batches.{EachKept, RefusedAt}
+use Rattle.partitions.specs.Batches.{EachKept, RefusedAt}
 use Rattle.partitions.specs.Fields.{PaperField}
 use Rattle.drafts.specs.BoundAdds.{on_named, named_rules}
 use Rattle.drafts.specs.Paper.{Paper, blank_paper, with_spec_id, with_start, with_fields}

@@ -1,4 +1,3 @@
-pub mod Batches
 pub mod SourceRules
 pub mod BoundAdds
 pub mod Paper

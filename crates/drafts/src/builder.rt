@@ -1,16 +1,17 @@
 // Bound partition drafts: each field that is added suits the schema that is passed with it.
 ghost use Rattle.std.specs.Prelude.{◌≡◌, [], IfOk, None};
 ghost use Rattle.partitions.specs.Batches.{entries};
-ghost use Rattle.partitions.specs.Fields.{field_of};
+ghost use Rattle.partitions.specs.Views.{seen};
 ghost use Rattle.drafts.specs.Calls.{Call, Step, Ran, Continues};
 ghost use Rattle.drafts.specs.Drafts.{paper, answer_of, batch_answer_of};
 ghost use Rattle.drafts.specs.Paper.{blank_paper};
 
-use crate::bound::{add_all_bound, add_bound, add_named};
+use crate::bound::OnSchema;
 use partitions::batch::{BatchFault, BatchField};
 use partitions::fault::DraftFault;
 use partitions::field::FieldView;
 use partitions::fields::FieldList;
+use partitions::ways::Adding;
 use schemas::schema::Schema;
 use std::alloc::{AllocError, Global};
 use transforms::transform::Transform;
@@ -62,21 +63,12 @@ impl PartitionSpecBuilder {
     pub fn add_unbound_field<S: Schema>(
         &mut self,
         schema: &S,
-        source_id: i32,
-        field_id: Option<i32>,
-        name: &[u8],
-        transform: Transform,
+        field: &FieldView<'_>,
     ) -> Result<(), DraftFault>
-        ensures step { Step (paper self.old) (Call.add_field (S.Schema.columns schema.now) (field_of source_id field_id name.now transform)) (answer_of result) (paper self.new) }
-        ensures history { Continues (paper self.old) (Call.add_field (S.Schema.columns schema.now) (field_of source_id field_id name.now transform)) (answer_of result) (paper self.new) }
+        ensures step { Step (paper self.old) (Call.add_field (S.Schema.columns schema.now) (seen field.now)) (answer_of result) (paper self.new) }
+        ensures history { Continues (paper self.old) (Call.add_field (S.Schema.columns schema.now) (seen field.now)) (answer_of result) (paper self.new) }
     {
-        let field = FieldView {
-            source_id,
-            field_id,
-            name,
-            transform,
-        };
-        add_bound(&mut self.fields, schema, &field)
+        OnSchema { schema }.add_to(&mut self.fields, field)
     }
 
     // Adds a field on the column that the source's name leads to, with no id stated.
@@ -90,7 +82,7 @@ impl PartitionSpecBuilder {
         ensures step { Step (paper self.old) (Call.add_named (S.Schema.columns schema.now) source_name.now name.now transform) (answer_of result) (paper self.new) }
         ensures history { Continues (paper self.old) (Call.add_named (S.Schema.columns schema.now) source_name.now name.now transform) (answer_of result) (paper self.new) }
     {
-        add_named(&mut self.fields, schema, source_name, name, transform)
+        OnSchema { schema }.add_named(&mut self.fields, source_name, name, transform)
     }
 
     // Adds the fields of a batch, whose names lie in `area`, all or none.
@@ -103,6 +95,6 @@ impl PartitionSpecBuilder {
         ensures step { Step (paper self.old) (Call.add_batch (S.Schema.columns schema.now) (entries area.now fields.now)) (batch_answer_of result) (paper self.new) }
         ensures history { Continues (paper self.old) (Call.add_batch (S.Schema.columns schema.now) (entries area.now fields.now)) (batch_answer_of result) (paper self.new) }
     {
-        add_all_bound(&mut self.fields, schema, fields, area)
+        self.fields.add_all(&OnSchema { schema }, fields, area)
     }
 }

@@ -4,6 +4,7 @@ use faults::Fault;
 use names::name::NamePlace;
 use partitions::batch::BatchField;
 use partitions::fault::DraftFault;
+use partitions::field::FieldView;
 use partitions::spec::UnboundPartitionSpec;
 use schemas::table::{ColumnRecord, ColumnTable};
 use std::test::Fail;
@@ -51,6 +52,16 @@ const COLUMNS: [ColumnRecord; 4] = [
     },
 ];
 
+// A field without an id.
+fn field<'a>(source_id: i32, name: &'a [u8], transform: Transform) -> FieldView<'a> {
+    FieldView {
+        source_id,
+        field_id: None,
+        name,
+        transform,
+    }
+}
+
 fn number(answer: Result<(), DraftFault>) -> u8 {
     match answer {
         Ok(()) => 0,
@@ -67,31 +78,31 @@ fn adds_ask_the_schema(rt: HostRuntime) -> Result<(), Fail> {
     };
     let mut draft = PartitionSpecBuilder::new(rt.alloc())?;
     assert_eq!(rt;
-        number(draft.add_unbound_field(&table, 1, None, b"began", Transform::Identity)),
+        number(draft.add_unbound_field(&table, &field(1, b"began", Transform::Identity))),
         22
     );
     assert_eq!(rt;
-        number(draft.add_unbound_field(&table, 2, None, b"began", Transform::Day)),
+        number(draft.add_unbound_field(&table, &field(2, b"began", Transform::Day))),
         23
     );
     assert_eq!(rt;
-        number(draft.add_unbound_field(&table, 9, None, b"lost", Transform::Void)),
+        number(draft.add_unbound_field(&table, &field(9, b"lost", Transform::Void))),
         24
     );
     assert_eq!(rt;
-        number(draft.add_unbound_field(&table, 3, None, b"frame", Transform::Identity)),
+        number(draft.add_unbound_field(&table, &field(3, b"frame", Transform::Identity))),
         25
     );
     assert_eq!(rt;
-        number(draft.add_unbound_field(&table, 4, None, b"frame", Transform::Bucket(4))),
+        number(draft.add_unbound_field(&table, &field(4, b"frame", Transform::Bucket(4)))),
         33
     );
     assert_eq!(rt;
-        number(draft.add_unbound_field(&table, 1, None, b"day", Transform::Day)),
+        number(draft.add_unbound_field(&table, &field(1, b"day", Transform::Day))),
         26
     );
     assert_eq!(rt;
-        number(draft.add_unbound_field(&table, 4, None, b"gone", Transform::Void)),
+        number(draft.add_unbound_field(&table, &field(4, b"gone", Transform::Void))),
         0
     );
     assert_eq!(rt;
@@ -159,7 +170,7 @@ fn an_unbound_spec_is_taken_over(rt: HostRuntime) -> Result<(), Fail> {
     let mut spec = UnboundPartitionSpec::new(rt.alloc())?;
     spec.restart(Some(7));
     assert!(rt;
-        spec.add_partition_field(2, None, b"day", Transform::Day)
+        spec.add_partition_field(&field(2, b"day", Transform::Day))
             .is_ok()
     );
     match PartitionSpecBuilder::new_from_unbound(spec, &table) {

@@ -4,6 +4,7 @@ ghost use Rattle.partitions.specs.Views.{papers, seen};
 ghost use Rattle.drafts.specs.BoundAdds.{AdmitsAll};
 ghost use Rattle.drafts.specs.SourceRules.{collision_rules, column_rules, source_rules};
 
+use super::OnSchema;
 use partitions::batch::{BatchCause, BatchFault};
 use partitions::fault::DraftFault;
 use partitions::field::{FieldView, UnboundPartitionField};
@@ -11,65 +12,62 @@ use schemas::schema::Schema;
 use transforms::datatypes::Type;
 use transforms::transform::Transform;
 
-// Whether the schema admits every field. The index is of the first that it does not.
-pub(crate) fn check_all<S: Schema>(
-    schema: &S,
-    fields: &[UnboundPartitionField],
-) -> Result<(), BatchFault>
-    ensures { AdmitsAll (S.Schema.columns schema.now) (papers fields.now) result }
-{
-    for (index, field) in fields.iter().enumerate() {
-        if let Err(fault) = check_source(schema, &field.view()) {
-            return Err(BatchFault {
-                index,
-                cause: BatchCause::Add(fault),
-            });
+impl<'a, S: Schema> OnSchema<'a, S> {
+    // Whether the schema admits every field. The index is of the first that it does not.
+    pub(crate) fn check_all(&self, fields: &[UnboundPartitionField]) -> Result<(), BatchFault>
+        ensures { AdmitsAll (S.Schema.columns self.now.schema.now) (papers fields.now) result }
+    {
+        for (index, field) in fields.iter().enumerate() {
+            if let Err(fault) = self.check_source(&field.view()) {
+                return Err(BatchFault {
+                    index,
+                    cause: BatchCause::Add(fault),
+                });
+            }
+        }
+        Ok(())
+    }
+
+    pub(super) fn check_source(&self, field: &FieldView<'_>) -> Result<(), DraftFault>
+        ensures { Judged (source_rules (S.Schema.columns self.now.schema.now) (seen field.now)) result }
+    {
+        self.check_collision(field)?;
+        self.check_column(field)
+    }
+
+    // An identity field may be named as its source, and no field as any other column.
+    fn check_collision(&self, field: &FieldView<'_>) -> Result<(), DraftFault>
+        ensures { Judged (collision_rules (S.Schema.columns self.now.schema.now) (seen field.now)) result }
+    {
+        match self.schema.field_by_name(field.name) {
+            None => Ok(()),
+            Some(_) if field.transform != Transform::Identity => Err(DraftFault::NamedAsColumn),
+            Some(column) if column.id != field.source_id => Err(DraftFault::NamedAsOtherColumn),
+            Some(_) => Ok(()),
         }
     }
-    Ok(())
-}
 
-pub(super) fn check_source<S: Schema>(schema: &S, field: &FieldView<'_>) -> Result<(), DraftFault>
-    ensures { Judged (source_rules (S.Schema.columns schema.now) (seen field.now)) result }
-{
-    check_collision(schema, field)?;
-    check_column(schema, field)
-}
-
-// An identity field may be named as its source, and no field as any other column.
-fn check_collision<S: Schema>(schema: &S, field: &FieldView<'_>) -> Result<(), DraftFault>
-    ensures { Judged (collision_rules (S.Schema.columns schema.now) (seen field.now)) result }
-{
-    let Some(column) = schema.field_by_name(field.name) else {
-        return Ok(());
-    };
-    if field.transform != Transform::Identity {
-        return Err(DraftFault::NamedAsColumn);
+    // A void field makes nothing of its source, so that any column will do.
+    fn check_column(&self, field: &FieldView<'_>) -> Result<(), DraftFault>
+        ensures { Judged (column_rules (S.Schema.columns self.now.schema.now) (seen field.now)) result }
+    {
+        let source = self
+            .schema
+            .field_by_id(field.source_id)
+            .ok_or(DraftFault::SourceUnknown)?;
+        if field.transform == Transform::Void {
+            return Ok(());
+        }
+        if !matches!(source.field_type, Type::Primitive(_)) {
+            return Err(DraftFault::SourceNotPrimitive);
+        }
+        if source.is_marked {
+            return Err(DraftFault::SourceMarked);
+        }
+        field
+            .transform
+            .result_type(&source.field_type)
+            .map(|_| ())
+            .map_err(|_| DraftFault::SourceUnfit)
     }
-    if column.id != field.source_id {
-        return Err(DraftFault::NamedAsOtherColumn);
-    }
-    Ok(())
-}
-
-// A void field makes nothing of its source, so that any column will do.
-fn check_column<S: Schema>(schema: &S, field: &FieldView<'_>) -> Result<(), DraftFault>
-    ensures { Judged (column_rules (S.Schema.columns schema.now) (seen field.now)) result }
-{
-    let Some(source) = schema.field_by_id(field.source_id) else {
-        return Err(DraftFault::SourceUnknown);
-    };
-    if field.transform == Transform::Void {
-        return Ok(());
-    }
-    if !matches!(source.field_type, Type::Primitive(_)) {
-        return Err(DraftFault::SourceNotPrimitive);
-    }
-    if source.is_marked {
-        return Err(DraftFault::SourceMarked);
-    }
-    if field.transform.result_type(&source.field_type).is_err() {
-        return Err(DraftFault::SourceUnfit);
-    }
-    Ok(())
 }

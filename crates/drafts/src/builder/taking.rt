@@ -7,7 +7,7 @@ ghost use Rattle.drafts.specs.Paper.{with_fields};
 ghost use Rattle.drafts.specs.Taking.{identified, id_answers, taking_batch, taking_calls, taking_answer, taken};
 
 use super::{BEFORE_FIRST_FIELD_ID, PartitionSpecBuilder};
-use crate::bound::check_all;
+use crate::bound::OnSchema;
 use partitions::batch::BatchFault;
 use partitions::spec::UnboundPartitionSpec;
 use schemas::schema::Schema;
@@ -24,7 +24,7 @@ impl PartitionSpecBuilder {
         ensures fields { IfOk result (λ d. paper d ≡ with_fields (paper_spec unbound).fields (identified (paper_spec unbound).spec_id)) }
     {
         let (spec_id, fields) = unbound.into_parts();
-        check_all(schema, fields.as_slice())?;
+        OnSchema { schema }.check_all(fields.as_slice())?;
         Ok(PartitionSpecBuilder {
             spec_id: spec_id.unwrap_or(0),
             last_assigned_field_id: BEFORE_FIRST_FIELD_ID,

@@ -12,4 +12,4 @@ returns g c =
     let columns = g.S.Schema.columns c.args.schema.now in
     let p = paper c.args.self.now in
     let es = entries c.args.area.now c.args.fields.now in
-    stepped p _ (Call.add_batch columns es) (batch_answer_of c.add_all_bound.result) (changes_all p (listed c.add_all_bound.new.fields) columns es c.add_all_bound.result c.add_all_bound.ensures)
+    stepped p _ (Call.add_batch columns es) (batch_answer_of c.add_all.result) (changes_all p (listed c.add_all.new.self) columns es c.add_all.result c.add_all.ensures)
