@@ -1,11 +1,11 @@
 -- Numbers and their bytes, at any width, both ways.
-use Rattle.std.proofs.Common.{◌≡◌, ℕ, zero, suc, ◌+◌, ◌-◌, ◌*◌, ◌/◌, ◌%◌, ◌^◌, ◌<◌, ◌≤◌, List, [], ◌∷◌, ◌++◌, length, get_or, take, drop, ℤ, pos, negsuc, sym, refl, ap, ◌∙◌, subst, lt_of_lt_of_le, mod-eq_of_lt, mul_assoc, add-mul, pow-suc, div-one, arith, lit<, length-append, pow-add, w8, w32, Fits, SFits, to_z, of_z}
+use Rattle.std.proofs.Common.{◌≡◌, ℕ, zero, suc, ◌+◌, ◌*◌, ◌/◌, ◌%◌, ◌^◌, ◌<◌, ◌≤◌, List, [], ◌∷◌, ◌++◌, length, get_or, take, ℤ, pos, negsuc, sym, refl, ap, ◌∙◌, subst, lt_of_lt_of_le, mod-eq_of_lt, mul_assoc, add-mul, pow-suc, div-one, arith, lit<, length-append, pow-add, w8, w32, Fits, SFits, to_z, of_z}
 use native.Mathlib.Nat.{pow-succ', mod-one, pow-le-pow_right}
 use lib.Arith.{mod-mul, digits_div, digits_mod, digits_lt}
-use Rattle.std.proofs.ByRecursion.{All-append, All-from_get_or, All-take, All-drop}
-use Rattle.std.proofs.lemmas.List.{length-drop, length-take, length-take-le}
-use Rattle.std.proofs.lemmas.Int.{to_z-of_z, of_z-to_z, ints}
-use Rattle.octets.specs.BigEndian.{big_endian, number, be4, be_id, id_number}
+use Rattle.std.proofs.ByRecursion.{All-append, All-from_get_or, All-take}
+use Rattle.std.proofs.lemmas.List.{length-take}
+use Rattle.std.proofs.lemmas.Int.{to_z-of_z, ints}
+use Rattle.octets.specs.BigEndian.{big_endian, number, be_id, id_number}
 use Rattle.octets.specs.Octets.{Bytes}
 
 pub length_be : (k n : ℕ) → length (big_endian k n) ≡ k
@@ -87,36 +87,7 @@ be_append j k m n p q =
 pub bytes_from_fits : (bs : List ℕ) → ((i : ℕ) → Fits w8 (get_or bs i 0)) → Bytes bs
 bytes_from_fits bs h = All-from_get_or (λ b. b < 256) bs 0 (λ i _. (h i).fits)
 
--- the sum that std reads from the places i, i + 1, ..
-abbrev pub placed : ℕ → ℕ → List ℕ → ℕ
-placed zero i xs = 0
-placed (suc k) i xs = get_or xs i 0 * 256 ^ k + placed k (suc i) xs
-
-placed_later : (k i x : ℕ) (xs : List ℕ) → placed k (suc i) (x ∷ xs) ≡ placed k i xs
-placed_later zero i x xs = refl
-placed_later (suc k) i x xs = ap (λ r. get_or xs i 0 * 256 ^ k + r) (placed_later k (suc i) x xs)
-
-number_placed : (k : ℕ) (xs : List ℕ) → k ≤ length xs → placed k 0 xs ≡ number (take k xs)
-number_placed zero xs h = refl
-number_placed (suc k) [] h = absurd (omega arith)
-number_placed (suc k) (x ∷ xs) h =
-    let h' : k ≤ length xs = omega arith in
-    λ i. x * 256 ^ sym (length-take-le k xs h') i + (placed_later k 0 x xs ∙ number_placed k xs h') i
-
--- what from_be_bytes gives of xs, the bytes from a place on
-pub read_at : (k at n : ℕ) (bs xs : List ℕ) → ((i : ℕ) → Fits w8 (get_or bs i 0)) → xs ≡ drop at bs → 0 < k → k ≤ length xs → n ≡ placed k 0 xs
-    → (at + k ≤ length bs) × (take k (drop at bs) ≡ big_endian k n)
-read_at k at n bs xs t from some enough e =
-    let whole : length xs ≡ length bs - at = ap length from ∙ length-drop at bs in
-    let len : length (take k xs) ≡ k = length-take-le k xs enough in (
-      omega arith,
-      ap (take k) (sym from) ∙ sym (be_number (take k xs) (All-take _ k xs (subst Bytes (sym from) (All-drop _ at bs (bytes_from_fits bs t))))) ∙ (λ i. big_endian (len i) (sym (e ∙ number_placed k xs enough) i)),
-    )
-
-pub past_end : (k at : ℕ) (bs xs : List ℕ) → xs ≡ drop at bs → length xs < k → length bs < at + k
-past_end k at bs xs from short = omega (arith, ap length from, length-drop at bs)
-
-pub of_z_below : (z : ℤ) → SFits w32 z → of_z w32 z < 256 ^ 4
+of_z_below : (z : ℤ) → SFits w32 z → of_z w32 z < 256 ^ 4
 of_z_below (pos n) f = omega (arith, ints)
 of_z_below (negsuc n) f = omega (arith, ints)
 
@@ -125,8 +96,3 @@ id_number_be_id z f = ap (to_z w32) (number_be 4 (of_z w32 z) (of_z_below z f)) 
 
 pub same_from_be_id : (y z : ℤ) → SFits w32 y → SFits w32 z → be_id y ≡ be_id z → y ≡ z
 same_from_be_id y z f g e = sym (id_number_be_id y f) ∙ ap id_number e ∙ id_number_be_id z g
-
-pub be_id_id_number : (bs : List ℕ) → Bytes bs → length bs ≡ 4 → be_id (id_number bs) ≡ bs
-be_id_id_number bs h n =
-    let small : number bs < 256 ^ 4 = subst (λ k. number bs < 256 ^ k) n (number_below bs h) in
-    ap be4 (of_z-to_z w32 (number bs) small) ∙ ap (λ k. big_endian k (number bs)) (sym n) ∙ be_number bs h

@@ -6,6 +6,7 @@ pub fn put_at(src: &[u8], out: &mut [u8], at: usize) -> Option<usize>
     ensures { PutAt src.now out.old at out.new result }
 {
     let end = at.checked_add(src.len())?;
+    // kept: tried, and the proof did not close: after a `get_mut(at..end)?` nothing is known of what `out` holds
     if end > out.len() {
         return None;
     }
