@@ -7,10 +7,9 @@ use Rattle.std.proofs.lemmas.Bool.{cases_lt}
 use Rattle.faults.specs.Rules.{AllKept}
 use Rattle.faults.proofs.Firsts.{keeps as kept_rule, keeps_at}
 use Rattle.names.specs.WellFormed.{WellFormed, Front}
-use Rattle.names.specs.Machine.{Due}
 use Rattle.names.specs.GoodName.{GoodName}
 use Rattle.names.specs.NameRules.{name_rules, GoodExactlyWhenKept}
-use Rattle.names.proofs.Runs.{run, sound, complete}
+use Rattle.names.proofs.Runs.{Due, run, sound, complete}
 use Rattle.names.proofs.Chars.{to_utf8}
 
 ended : (o : Due) → (o ≡ Some []) ⊎ (o ≡ Some [] → ⊥)

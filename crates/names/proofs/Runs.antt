@@ -1,12 +1,20 @@
 -- The rows taken byte by byte accept just what is well formed. Assumes nothing.
-use Rattle.std.proofs.Common.{◌≡◌, ℕ, ◌<◌, Bool, true, false, cond, ◌&&◌, ltb, leb, List, [], ◌∷◌, ◌++◌, Some, None, sym, refl, ap, ◌∙◌, subst, inl, inr, arith}
+use Rattle.std.proofs.Common.{◌≡◌, ℕ, ◌<◌, Bool, true, false, cond, ◌&&◌, ltb, leb, List, [], ◌∷◌, ◌++◌, Some, None, Option, sym, refl, ap, ◌∙◌, subst, inl, inr, arith}
 use Rattle.std.proofs.lemmas.Bool.{le-leb, leb-true, and_parts, and_from, and_right, lt-leb, ltb-true}
 use Rattle.names.specs.WellFormed.{Row, rows, Stands, InSome, Sequence, Each, joined, WellFormed}
-use Rattle.names.specs.Machine.{Due, holds, begins, after}
+use Rattle.names.specs.Machine.{holds, begins, after}
+
+-- what is due, or None past a byte that can't stand where it does
+abbrev pub Due : Type 0
+Due = Option Row
+
+abbrev pub step : Due → ℕ → Due
+step None b = None
+step (Some row) b = after row b
 
 abbrev pub run : Due → List ℕ → Due
 run o [] = o
-run o (b ∷ bs) = run (after o b) bs
+run o (b ∷ bs) = run (step o b) bs
 
 pub run_none : (bs : List ℕ) → run None bs ≡ None
 run_none [] = refl
@@ -14,7 +22,7 @@ run_none (b ∷ bs) = run_none bs
 
 pub run_append : (o : Due) (xs ys : List ℕ) → run o (xs ++ ys) ≡ run (run o xs) ys
 run_append o [] ys = refl
-run_append o (x ∷ xs) ys = run_append (after o x) xs ys
+run_append o (x ∷ xs) ys = run_append (step o x) xs ys
 
 never : (rs : Row) → ◌≡◌ {A = Due} None (Some rs) → ⊥
 never rs e = let z : ◌≡◌ {A = ℕ} 0 1 = cc in omega arith

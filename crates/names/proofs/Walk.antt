@@ -3,10 +3,10 @@ use Rattle.std.proofs.Common.{◌≡◌, ℕ, ◌+◌, ◌-◌, ◌<◌, ◌≤�
 use Rattle.std.proofs.lemmas.List.{take_more, take_all}
 use Rattle.std.proofs.lemmas.Bool.{cases_lt}
 use Rattle.names.specs.WellFormed.{WellFormed, Front}
-use Rattle.names.specs.Machine.{Due, due, after}
+use Rattle.names.specs.Machine.{due}
 use Rattle.names.specs.declared.utf8.State.{State}
-use Rattle.names.specs.declared.utf8.State.TheVariants.{Start, One, Two, Three, AfterE0, AfterED, AfterF0, AfterF4, Fault}
-use Rattle.names.proofs.Runs.{run, run_none, run_append, sound, complete}
+use Rattle.names.specs.declared.utf8.State.TheVariants.{Start, One, Two, Three, AfterE0, AfterED, AfterF0, AfterF4}
+use Rattle.names.proofs.Runs.{Due, step, run, run_none, run_append, sound, complete}
 use Rattle.names.proofs.Chars.{from_utf8}
 
 -- after i bytes: what is due, and the longest front of them that ends no sequence short
@@ -16,9 +16,9 @@ pub record Sofar (bs : List ℕ) (i : ℕ) (o : Due) (front : ℕ) : Type 0 wher
   pub good : run (Some []) (take front bs) ≡ Some []
   pub last : (m : ℕ) → front < m → m ≤ i → run (Some []) (take m bs) ≡ Some [] → ⊥
 
-module _ (bs : List ℕ) (i : ℕ) (o p : Due) (front : ℕ) (b : ℕ) (s : Sofar bs i o front) (lt : i < length bs) (at : b ≡ get_or bs i 0) (stepped : p ≡ after o b) where
+module _ (bs : List ℕ) (i : ℕ) (o p : Due) (front : ℕ) (b : ℕ) (s : Sofar bs i o front) (lt : i < length bs) (at : b ≡ get_or bs i 0) (stepped : p ≡ step o b) where
   ran_more : p ≡ run (Some []) (take (i + 1) bs)
-  ran_more = stepped ∙ ap (λ q. after q b) s.ran ∙ ap (λ x. after (run (Some []) (take i bs)) x) at
+  ran_more = stepped ∙ ap (λ q. step q b) s.ran ∙ ap (λ x. step (run (Some []) (take i bs)) x) at
       ∙ sym (ap (run (Some [])) (take_more bs i 0 lt) ∙ run_append (Some []) (take i bs) (get_or bs i 0 ∷ []))
 
   pub at_start : p ≡ Some [] → Sofar bs (i + 1) p (i + 1)
@@ -64,7 +64,7 @@ pub no_text : (bs : List ℕ) (n : ℕ) → Front bs n → IsUtf8 bs → ⊥
 no_text bs n f u = f.longest (length bs) f.short (omega arith) (subst WellFormed (sym (take_all (length bs) bs (omega arith))) (from_utf8 bs u))
 
 -- no sequence is begun only at the start
-begun_none : (st : State) → due st ≡ Some [] → st ≡ Start
+pub begun_none : (st : State) → due st ≡ [] → st ≡ Start
 begun_none Start e = refl
 begun_none One e = cc
 begun_none Two e = cc
@@ -73,7 +73,3 @@ begun_none AfterE0 e = cc
 begun_none AfterED e = cc
 begun_none AfterF0 e = cc
 begun_none AfterF4 e = cc
-begun_none Fault e = cc
-
-pub not_start : (st : State) → (st ≡ Start → ⊥) → due st ≡ Some [] → ⊥
-not_start st n e = n (begun_none st e)

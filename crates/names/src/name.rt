@@ -20,6 +20,7 @@ pub enum NameFault {
 }
 
 // A good name, held in place: its bytes are the first `len`.
+// kept: fixed memory; a name is Copy and no add of one wants memory, and the kit's ArrayVec is not Copy.
 #[derive(Clone, Copy)]
 pub struct Name {
     bytes: [u8; MAX_LEN],

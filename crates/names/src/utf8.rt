@@ -1,5 +1,6 @@
-// UTF-8, checked by a machine that takes one byte a step.
+// UTF-8, checked one byte at a time.
 ghost use Rattle.std.specs.Prelude.{◌≡◌, IsUtf8, MatchResult};
+ghost use Rattle.std.specs.Option.{option_map};
 ghost use Rattle.names.specs.WellFormed.{WellFormed, Front, WellFormedIsUtf8};
 ghost use Rattle.names.specs.Machine.{due, after};
 
@@ -7,8 +8,8 @@ mod classes;
 
 use classes::{Class, class_of};
 
-// What the machine waits for: a new sequence, or the tails of one begun.
-#[derive(Clone, Copy)]
+// What the check waits for: a new sequence, or the tails of one begun.
+#[derive(Clone, Copy, PartialEq, Eq)]
 enum State {
     Start,
     One,
@@ -18,46 +19,31 @@ enum State {
     AfterED,
     AfterF0,
     AfterF4,
-    Fault,
 }
 
-// Steps once a byte, and stays at its first fault.
-#[derive(Drop)]
-struct Machine {
-    state: State,
-}
-
-impl Machine {
-    fn new() -> Machine
-        ensures { result.state ≡ State.Start }
+impl State {
+    // None where the byte can't stand next.
+    fn after(self, byte: u8) -> Option<State>
+        ensures { option_map due result ≡ after (due self) byte }
     {
-        Machine {
-            state: State::Start,
+        match (self, class_of(byte)) {
+            (State::Start, Class::Ascii) => Some(State::Start),
+            (State::Start, Class::Lead2) => Some(State::One),
+            (State::Start, Class::LeadE0) => Some(State::AfterE0),
+            (State::Start, Class::Lead3) => Some(State::Two),
+            (State::Start, Class::LeadED) => Some(State::AfterED),
+            (State::Start, Class::LeadF0) => Some(State::AfterF0),
+            (State::Start, Class::Lead4) => Some(State::Three),
+            (State::Start, Class::LeadF4) => Some(State::AfterF4),
+            (State::One, Class::Tail8 | Class::Tail9 | Class::TailAB) => Some(State::Start),
+            (State::Two, Class::Tail8 | Class::Tail9 | Class::TailAB) => Some(State::One),
+            (State::Three, Class::Tail8 | Class::Tail9 | Class::TailAB) => Some(State::Two),
+            (State::AfterE0, Class::TailAB) => Some(State::One),
+            (State::AfterED, Class::Tail8 | Class::Tail9) => Some(State::One),
+            (State::AfterF0, Class::Tail9 | Class::TailAB) => Some(State::Two),
+            (State::AfterF4, Class::Tail8) => Some(State::Two),
+            _ => None,
         }
-    }
-
-    fn step(&mut self, byte: u8)
-        ensures { due self.new.state ≡ after (due self.old.state) byte }
-    {
-        let class = class_of(byte);
-        self.state = match (self.state, class) {
-            (State::Start, Class::Ascii) => State::Start,
-            (State::Start, Class::Lead2) => State::One,
-            (State::Start, Class::LeadE0) => State::AfterE0,
-            (State::Start, Class::Lead3) => State::Two,
-            (State::Start, Class::LeadED) => State::AfterED,
-            (State::Start, Class::LeadF0) => State::AfterF0,
-            (State::Start, Class::Lead4) => State::Three,
-            (State::Start, Class::LeadF4) => State::AfterF4,
-            (State::One, Class::Tail8 | Class::Tail9 | Class::TailAB) => State::Start,
-            (State::Two, Class::Tail8 | Class::Tail9 | Class::TailAB) => State::One,
-            (State::Three, Class::Tail8 | Class::Tail9 | Class::TailAB) => State::Two,
-            (State::AfterE0, Class::TailAB) => State::One,
-            (State::AfterED, Class::Tail8 | Class::Tail9) => State::One,
-            (State::AfterF0, Class::Tail9 | Class::TailAB) => State::Two,
-            (State::AfterF4, Class::Tail8) => State::Two,
-            _ => State::Fault,
-        };
     }
 }
 
@@ -67,14 +53,12 @@ pub fn check_utf8(bytes: &[u8]) -> Result<(), usize>
     ensures utf8 { MatchResult result (λ _. IsUtf8 bytes.now) (λ _. IsUtf8 bytes.now → ⊥) }
     ensures one_notion { WellFormedIsUtf8 }
 {
-    let mut machine = Machine::new();
+    let mut state = State::Start;
     let mut front = 0;
     for (i, byte) in bytes.iter().enumerate() {
-        machine.step(*byte);
-        match machine.state {
-            State::Fault => return Err(front),
-            State::Start => front = i + 1,
-            _ => {}
+        state = state.after(*byte).ok_or(front)?;
+        if state == State::Start {
+            front = i + 1;
         }
     }
     if front == bytes.len() {

@@ -1,6 +1,7 @@
 -- A printed text reads back as the transform that it was printed from. Assumes nothing.
-use Rattle.std.proofs.Common.{◌≡◌, ℕ, ◌-◌, ◌^◌, ◌<◌, ◌≤◌, List, [], ◌∷◌, ◌++◌, length, get_or, take, drop, Ok, Err, codes, decimal, Result, sym, refl, ap, ◌∙◌, subst, inl, arith, length-append}
+use Rattle.std.proofs.Common.{◌≡◌, ℕ, ◌-◌, ◌^◌, ◌<◌, ◌≤◌, true, false, List, [], ◌∷◌, ◌++◌, length, get_or, take, drop, Ok, Err, codes, decimal, Result, sym, refl, ap, ◌∙◌, subst, inl, arith, length-append}
 use Rattle.std.specs.Int.{IsInRange}
+use Rattle.std.specs.Result.{is_ok}
 use Rattle.std.proofs.lemmas.Fmt.{decimal_is_IsNumeral, length-decimal-le}
 use Rattle.std.proofs.lemmas.List.{take_at, get_or_append_left}
 use Rattle.std.proofs.lemmas.Str.Parse.{digit_at, without_leading_plus_none}
@@ -52,11 +53,8 @@ reads_so Hour h = refl
 reads_so Void h = refl
 reads_so Unknown h = refl
 
--- the print of t, which was put, and what is promised of it
-pub put_so : (t u : Transform) (out now : List ℕ) (r : Result ℕ OutputShort) → t ≡ u → Narrow u → Wrote (printed u) out now r → Wrote (printed t) out now r × ReadBack t
-put_so t u out now r e h w =
-    let narrow = subst Narrow (sym e) h in
-    (subst (λ v. Wrote (printed v) out now r) (sym e) w, (reads_so t narrow, (narrow, refl)))
+pub read_back : (t : Transform) → Narrow t → ReadBack t
+read_back t h = (reads_so t h, (h, refl))
 
 pub short : (t : Transform) → Narrow t → length (printed t) ≤ 20
 short Identity h = omega arith
@@ -68,6 +66,11 @@ short Day h = omega arith
 short Hour h = omega arith
 short Void h = omega arith
 short Unknown h = omega arith
+
+-- 20 bytes have room for every print
+pub fits : (t : Transform) (room now : List ℕ) (r : Result ℕ OutputShort) → Narrow t → length room ≡ 20 → Wrote (printed t) room now r → is_ok r ≡ true
+fits t room now (Ok n) h e w = refl
+fits t room now (Err f) h e w = absurd (omega (arith, w.0, short t h))
 
 pub documented : (t : Transform) → AsDocumented t
 documented Identity = refl
@@ -91,21 +94,17 @@ same_text x y s t p q = (
   λ e. p.1 ∙ ap printed e ∙ sym q.1,
 )
 
-pub front_is : (n : ℕ) (text room now : List ℕ) → n ≡ length text → now ≡ text ++ drop n room → take (n - 0) now ≡ text
-front_is n text room now e w =
-    let z : n - 0 ≡ length text = omega arith in
-    ap (λ k. take k now) z ∙ ap (take (length text)) w ∙ take_at text (drop n room) (length text) refl
+pub front_is : (n : ℕ) (text room now : List ℕ) → n ≡ length text → now ≡ text ++ drop n room → take n now ≡ text
+front_is n text room now e w = ap (take n) w ∙ take_at text (drop n room) n (sym e)
 
 -- a text that is no print is refused, and by nothing else
 pub not_printed : (text : List ℕ) → ((t : Transform) → Prints t text → ⊥) → StrictReading text (Err NotPrinted) × AcceptsExactlyThePrinted text (Err NotPrinted)
 not_printed text none = (inl (refl, none), (λ e. absurd (false≢true e), λ p. absurd (none p.0 p.1)))
 
 -- strict reading after a loose one: the loose reading was this one only
-pub loose_refused : (text : List ℕ) (f : TextFault) → ((s : Result Transform TextFault) → LooseReading text s → s ≡ Err f) → (t : Transform) → Prints t text → ⊥
-loose_refused text f only t p =
-    let q : ◌≡◌ {A = Result Transform TextFault} (Ok t) (Err f) = only (Ok t) (print_read text t p) in
-    let z : ◌≡◌ {A = ℕ} 0 1 = cc in omega arith
+pub loose_refused : (text : List ℕ) (r : Result Transform TextFault) → is_ok r ≡ false → ((s : Result Transform TextFault) → LooseReading text s → s ≡ r) → (t : Transform) → Prints t text → ⊥
+loose_refused text r e only t p = false≢true (sym e ∙ ap is_ok (sym (only (Ok t) (print_read text t p))))
 
-pub loose_same : (text : List ℕ) (s : Transform) → ((r : Result Transform TextFault) → LooseReading text r → r ≡ Ok s) → (t : Transform) → Prints t text → t ≡ s
-loose_same text s only t p =
-    let q : ◌≡◌ {A = Result Transform TextFault} (Ok t) (Ok s) = only (Ok t) (print_read text t p) in cc
+pub loose_same : (text : List ℕ) (r : Result Transform TextFault) (s : Transform) → r ≡ Ok s → ((x : Result Transform TextFault) → LooseReading text x → x ≡ r) → (t : Transform) → Prints t text → t ≡ s
+loose_same text r s e only t p =
+    let q : ◌≡◌ {A = Result Transform TextFault} (Ok t) (Ok s) = only (Ok t) (print_read text t p) ∙ e in cc

@@ -1,19 +1,15 @@
 -- Dropped dropped: what a turn of each loop keeps, and that what is left is one thing only. Assumes nothing.
-use Rattle.std.proofs.Common.{◌≡◌, ℕ, zero, suc, ◌+◌, ◌-◌, ◌<◌, List, [], ◌∷◌, ◌++◌, length, get_or, take, drop, replicate, sym, ap, ◌∙◌, append_assoc, append-nil, add-one, arith}
-use Rattle.std.proofs.lemmas.List.{take_all, take_more, replicate_more, same_from_push, get_or_push, length_push}
+use Rattle.std.proofs.Common.{◌≡◌, ℕ, zero, suc, ◌+◌, ◌-◌, List, [], ◌∷◌, ◌++◌, length, get_or, drop, replicate, sym, ap, ◌∙◌, append_assoc, append-nil, add-one, arith}
+use Rattle.std.proofs.lemmas.List.{replicate_more, same_from_push, get_or_push, length_push}
 use Rattle.texts.specs.Width.{Between}
 
-pub one_open : (text rest : List ℕ) (k : ℕ) → text ≡ replicate k 91 ++ rest → 0 < length rest → get_or rest 0 0 ≡ 91 → text ≡ replicate (k + 1) 91 ++ drop 1 rest
-one_open text [] k e h g = absurd (omega arith)
-one_open text (x ∷ rest) k e h g =
-    e ∙ ap (λ y. replicate k 91 ++ y ∷ rest) g ∙ sym (append_assoc (replicate k 91) (91 ∷ []) rest) ∙ ap (λ l. l ++ rest) (replicate_more k 91)
+pub one_open : (text rest after : List ℕ) (k : ℕ) → text ≡ replicate k 91 ++ rest → rest ≡ 91 ∷ after → text ≡ replicate (k + 1) 91 ++ after
+one_open text rest after k e h =
+    e ∙ ap (λ l. replicate k 91 ++ l) h ∙ sym (append_assoc (replicate k 91) (91 ∷ []) after) ∙ ap (λ l. l ++ after) (replicate_more k 91)
 
-pub one_close : (text rest : List ℕ) (k : ℕ) → text ≡ rest ++ replicate k 93 → 0 < length rest → get_or rest (length rest - 1) 0 ≡ 93 → text ≡ take (length rest - 1) rest ++ replicate (suc k) 93
-one_close text rest k e h g =
-    let lt : length rest - 1 < length rest = omega arith in
-    let whole = sym (take_more rest (length rest - 1) 0 lt) ∙ take_all (length rest - 1 + 1) rest (omega arith) in
-    e ∙ ap (λ l. l ++ replicate k 93) (sym whole) ∙ append_assoc (take (length rest - 1) rest) (get_or rest (length rest - 1) 0 ∷ []) (replicate k 93)
-    ∙ ap (λ y. take (length rest - 1) rest ++ (y ∷ replicate k 93)) g
+pub one_close : (text rest before : List ℕ) (k : ℕ) → text ≡ rest ++ replicate k 93 → rest ≡ before ++ 93 ∷ [] → text ≡ before ++ replicate (k + 1) 93
+one_close text rest before k e h =
+    e ∙ ap (λ l. l ++ replicate k 93) h ∙ append_assoc before (93 ∷ []) (replicate k 93) ∙ ap (λ n. before ++ replicate n 93) (sym (add-one k))
 
 open_only : (a b : List ℕ) (j k : ℕ) → replicate j 91 ++ a ≡ replicate k 91 ++ b → (get_or a 0 0 ≡ 91 → ⊥) → (get_or b 0 0 ≡ 91 → ⊥) → a ≡ b
 open_only a b zero zero e n m = e

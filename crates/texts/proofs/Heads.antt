@@ -1,25 +1,12 @@
 -- The word at the front of a text: no two of them stand there. Assumes nothing.
-use Rattle.std.proofs.Common.{◌≡◌, ℕ, zero, suc, ◌+◌, ◌-◌, ◌<◌, ◌≤◌, cond, eqb, ◌⊎◌, List, [], ◌∷◌, ◌++◌, length, get_or, take, drop, codes, sym, refl, ap, ◌∙◌, subst, inl, inr, ⊎_elim, arith}
-use Rattle.std.proofs.lemmas.Slice.Eq.{HasBytesAt}
-use Rattle.std.proofs.lemmas.List.Prefix.{front_from_reads}
-use Rattle.std.proofs.lemmas.List.{append_cancel_left, take_rest}
+use Rattle.std.proofs.Common.{◌≡◌, ℕ, cond, eqb, ◌⊎◌, List, get_or, codes, sym, refl, ap, ◌∙◌, subst, inl, inr, ⊎_elim, arith}
+use Rattle.std.proofs.lemmas.List.{append_cancel_left}
 use Rattle.transforms.specs.declared.transform.Transform.{Transform}
 use Rattle.transforms.specs.declared.transform.Transform.TheVariants.{Identity, Bucket, Truncate, Year, Month, Day, Hour, Void, Unknown}
 use Rattle.texts.specs.Width.{Between, SpellsWidth}
 use Rattle.texts.specs.Words.{After, Wide, Spells, NoWord}
 use Rattle.texts.proofs.Dropped.{between_only}
 use Rattle.texts.proofs.Numbers.{width_only}
-
-reads_get : (text word : List ℕ) (k : ℕ) → HasBytesAt text k word → (i : ℕ) → i < length word → get_or text (k + i) 0 ≡ get_or word i 0
-reads_get text [] k r i h = absurd (omega arith)
-reads_get text (w ∷ ws) k r zero h = let z : k + 0 ≡ k = omega arith in ap (λ j. get_or text j 0) z ∙ r.0
-reads_get text (w ∷ ws) k r (suc i) h = let z : k + suc i ≡ suc k + i = omega arith in ap (λ j. get_or text j 0) z ∙ reads_get text ws (suc k) r.1 i (omega arith)
-
--- a text whose first bytes were read is the word and the rest of the pattern
-pub begun : (word text : List ℕ) → length word ≤ length text → HasBytesAt text 0 word → text ≡ word ++ take (length text - length word) (drop (length word) text)
-begun word text h r =
-    front_from_reads 0 text word h (λ i l. let z : 0 + i ≡ i = omega arith in ap (λ j. get_or text j 0) (sym z) ∙ reads_get text word 0 r i l)
-    ∙ ap (λ l. word ++ l) (sym (take_rest text (length word)))
 
 -- texts with different first bytes differ
 abbrev first : List ℕ → ℕ

@@ -1,11 +1,10 @@
 -- Digits and their first wrong place: a text of digits has one reading only. Assumes nothing.
-use Rattle.std.proofs.Common.{◌≡◌, ℕ, ◌+◌, ◌-◌, ◌*◌, ◌^◌, ◌<◌, ◌≤◌, List, [], ◌∷◌, ◌++◌, length, get_or, take, drop, Ok, Err, Result, sym, refl, ap, ◌∙◌, subst, inl, inr, ⊎_elim, arith, take-append-drop, length-take}
+use Rattle.std.proofs.Common.{◌≡◌, ℕ, ◌+◌, ◌*◌, ◌^◌, ◌<◌, ◌≤◌, List, length, get_or, take, Ok, Err, Result, sym, ap, ◌∙◌, subst, inl, inr, ⊎_elim, arith, length-take, lit≤}
 use Rattle.std.specs.Char.{digit_value}
-use Rattle.std.specs.Int.{IsInRange}
-use Rattle.std.specs.Str.Parse.{AllDigits, digits_value, digits_value_after, without_leading_plus}
+use Rattle.std.specs.Str.Parse.{AllDigits, digits_value, without_leading_plus}
 use Rattle.std.proofs.lemmas.Int.Digits.{digits_value_more, digits_more}
-use Rattle.std.proofs.lemmas.List.{take_all, take-take, get_or-take}
-use Rattle.std.proofs.lemmas.Str.Parse.{digit_at, digit_from_value}
+use Rattle.std.proofs.lemmas.List.{take-take, get_or-take}
+use Rattle.std.proofs.lemmas.Str.Parse.{digit_at, digits_value-take-le}
 use Rattle.std.proofs.lemmas.Bool.{cases_order}
 use Rattle.std.proofs.lemmas.Str.{digit_value_digit}
 use Rattle.texts.specs.declared.fault.TextFault.{TextFault}
@@ -13,21 +12,8 @@ use Rattle.texts.specs.declared.fault.TextFault.TheVariants.{WordUnknown, WidthM
 use Rattle.texts.specs.Width.{Number, NonDigit, Overflow, SpellsWidth, Missing, Strange, TooLarge, OpenGone, CloseGone}
 use Rattle.texts.specs.Steps.{DigitsReading, BareReading, WidthReading}
 
-after_ge : (n : ℕ) (cs : List ℕ) → n ≤ digits_value_after 10 n cs
-after_ge n [] = omega arith
-after_ge n (c ∷ cs) = omega (arith, after_ge (n * 10 + digit_value c) cs)
-
-after_append : (n : ℕ) (xs ys : List ℕ) → digits_value_after 10 n (xs ++ ys) ≡ digits_value_after 10 (digits_value_after 10 n xs) ys
-after_append n [] ys = refl
-after_append n (x ∷ xs) ys = after_append (n * 10 + digit_value x) xs ys
-
-front_le : (k : ℕ) (ds : List ℕ) → digits_value 10 (take k ds) ≤ digits_value 10 ds
-front_le k ds =
-    subst (λ l. digits_value 10 (take k ds) ≤ digits_value 10 l) (take-append-drop k ds)
-    (subst (λ v. digits_value 10 (take k ds) ≤ v) (sym (after_append 0 (take k ds) (drop k ds))) (after_ge (digits_value 10 (take k ds)) (drop k ds)))
-
 front_le_front : (j k : ℕ) (ds : List ℕ) → j ≤ k → digits_value 10 (take j ds) ≤ digits_value 10 (take k ds)
-front_le_front j k ds h = subst (λ l. digits_value 10 l ≤ digits_value 10 (take k ds)) (take-take j k ds h) (front_le j (take k ds))
+front_le_front j k ds h = subst (λ l. digits_value 10 l ≤ digits_value 10 (take k ds)) (take-take j k ds h) (digits_value-take-le 10 (take k ds) j (lit≤ tt))
 
 digit_in : (ds : List ℕ) (k : ℕ) → AllDigits 10 ds → k < length ds → digit_value (get_or ds k 0) < 10
 digit_in ds k d h =
@@ -44,7 +30,7 @@ number_or_non_digit : (ds : List ℕ) (n : ℕ) → Number ds n → NonDigit ds 
 number_or_non_digit ds n a b = b.1.1 (digit_in ds b.0 a.0 b.1.0.0)
 
 number_or_overflow : (ds : List ℕ) (n : ℕ) → Number ds n → Overflow ds → ⊥
-number_or_overflow ds n a b = omega (arith, a.1, a.2, b.1.2, front_le (b.0 + 1) ds)
+number_or_overflow ds n a b = omega (arith, a.1, a.2, b.1.2, digits_value-take-le 10 ds (b.0 + 1) (lit≤ tt))
 
 non_digit_or_overflow : (ds : List ℕ) → NonDigit ds → Overflow ds → ⊥
 non_digit_or_overflow ds a b =
@@ -56,24 +42,16 @@ non_digit_or_overflow ds a b =
     (cases_order a.0 b.0)
 
 -- a turn of the loop at the place k, before which the digits spell n
-module _ (ds : List ℕ) (k n : ℕ) (inside : k < length ds) (so : Number (take k ds) n) where
-  pub non_digit_at : (IsInRange 48 57 (get_or ds k 0) → ⊥) → NonDigit ds
-  non_digit_at strange = (k, ((inside, so.0, omega (arith, so.1, so.2)), λ h. strange (digit_from_value (get_or ds k 0) h)))
-
-  pub overflow_at : IsInRange 48 57 (get_or ds k 0) → 2 ^ 32 ≤ n * 10 + (get_or ds k 0 - 48) → Overflow ds
-  overflow_at digit large =
-      let d = digit_value_digit (get_or ds k 0) digit in
+module _ (ds : List ℕ) (k n : ℕ) (inside : k < length ds) (so : Number (take k ds) n) (digit : digit_value (get_or ds k 0) < 10) where
+  pub overflow_at : 2 ^ 32 ≤ n * 10 + digit_value (get_or ds k 0) → Overflow ds
+  overflow_at large =
       let v = digits_value_more 10 ds k inside in
-      (k, ((inside, so.0, omega (arith, so.1, so.2)), omega (arith, digit.1), omega (arith, so.1, digit.0)))
+      (k, ((inside, so.0, omega (arith, so.1, so.2)), digit, omega (arith, so.1)))
 
-  pub digit_more : IsInRange 48 57 (get_or ds k 0) → n * 10 + (get_or ds k 0 - 48) < 2 ^ 32 → Number (take (k + 1) ds) (n * 10 + (get_or ds k 0 - 48))
-  digit_more digit small =
-      let d = digit_value_digit (get_or ds k 0) digit in
+  pub digit_more : n * 10 + digit_value (get_or ds k 0) < 2 ^ 32 → Number (take (k + 1) ds) (n * 10 + digit_value (get_or ds k 0))
+  digit_more small =
       let v = digits_value_more 10 ds k inside in
-      (digits_more 10 ds k inside so.0 (omega (arith, digit.1)), omega (arith, so.1, digit.0), small)
-
-pub number_all : (ds : List ℕ) (k n : ℕ) → length ds ≤ k → Number (take k ds) n → Number ds n
-number_all ds k n h so = subst (λ l. Number l n) (take_all k ds h) so
+      (digits_more 10 ds k inside so.0 digit, omega (arith, so.1), small)
 
 -- what is left between the brackets has one reading only
 module _ (bare : List ℕ) where
@@ -115,8 +93,3 @@ read_after_plus bare ds e h (Err NotPrinted) d = d
 
 pub width_so : {text rest bare : List ℕ} (r : Result ℕ TextFault) → OpenGone text rest → CloseGone rest bare → BareReading bare r → WidthReading text r
 width_so {text} {rest} {bare} r o c b = (bare, ((rest, (o, c)), b))
-
-pub lone_plus : (bare : List ℕ) → get_or bare 0 0 ≡ 43 → length bare ≡ 1 → bare ≡ 43 ∷ []
-lone_plus [] e h = absurd (omega arith)
-lone_plus (b ∷ []) e h = ap (λ x. x ∷ []) e
-lone_plus (b ∷ c ∷ cs) e h = absurd (omega arith)

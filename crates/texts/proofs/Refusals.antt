@@ -1,15 +1,17 @@
 -- The first broken rule of a text, and that only one fault tells it. Assumes nothing.
-use Rattle.std.proofs.Common.{◌≡◌, ℕ, cond, eqb, List, ◌++◌, Some, None, Ok, Err, codes, Option, sym, refl, ap, ◌∙◌, subst, inl, inr}
+use Rattle.std.proofs.Common.{◌≡◌, ℕ, cond, eqb, List, ◌++◌, Some, None, Ok, Err, codes, Option, Result, sym, refl, ap, ◌∙◌, subst, inl, inr}
 use Rattle.std.specs.Option.{ok_or}
+use Rattle.std.specs.Result.{MatchResult}
 use Rattle.faults.specs.Rules.{Rule, rule, FirstBroken, Kept, AllKept}
 use Rattle.faults.proofs.Firsts.{keeps, first_number}
 use Rattle.transforms.specs.declared.transform.Transform.{Transform}
+use Rattle.transforms.specs.declared.transform.Transform.TheVariants.{Bucket, Truncate}
 use Rattle.texts.specs.declared.fault.TextFault.{TextFault}
 use Rattle.texts.specs.declared.fault.TextFault.TheVariants.{WordUnknown, WidthMissing, WidthNonDigit, WidthOverflow, NotPrinted}
 use Rattle.texts.specs.Tells.{told}
 use Rattle.texts.specs.Width.{SpellsWidth, Missing, Strange, TooLarge}
 use Rattle.texts.specs.Steps.{FixedReading, BareReading, WidthReading}
-use Rattle.texts.specs.Words.{After, Wide, Spells, NotBegun, NoWord}
+use Rattle.texts.specs.Words.{Wide, Spells, NotBegun, NoWord}
 use Rattle.texts.specs.Reading.{text_rules, LooseReading}
 use Rattle.texts.proofs.Heads.{wide_only, wide_known, spells_known, spells_wide}
 use Rattle.texts.proofs.Numbers.{missing_or_strange, missing_or_large, strange_or_large, missing_or_spelt, strange_or_spelt, large_or_spelt}
@@ -51,12 +53,16 @@ refused_width text bare w WidthOverflow b =
     )
 refused_width text bare w NotPrinted b = absurd b
 
--- a word and a width after it
-pub spelt_after : (word text rest : List ℕ) (n : ℕ) → text ≡ word ++ rest → WidthReading rest (Ok n) → (bare : List ℕ) × (After word text bare × SpellsWidth bare n)
-spelt_after word text rest n e w = (w.0, ((rest, (e, w.1.0)), w.1.1))
+-- a word and a width after it, read so or refused
+pub bucket_read : (text rest : List ℕ) (r : Result ℕ TextFault) (o : Result Transform TextFault)
+    → WidthReading rest r → text ≡ codes "bucket" ++ rest → MatchResult r (λ n. o ≡ Ok (Bucket n)) (λ f. o ≡ Err f) → LooseReading text o
+bucket_read text rest (Ok n) o w e m = subst (LooseReading text) (sym m) (w.0, ((rest, (e, w.1.0)), w.1.1))
+bucket_read text rest (Err f) o w e m = subst (LooseReading text) (sym m) (refused_width text w.0 (inl (rest, (e, w.1.0))) f w.1.1)
 
-pub refused_after : (word text rest : List ℕ) → ((bare : List ℕ) → After word text bare → Wide text bare) → text ≡ word ++ rest → (f : TextFault) → WidthReading rest (Err f) → FirstBroken (text_rules text) (told f)
-refused_after word text rest wide e f w = refused_width text w.0 (wide w.0 (rest, (e, w.1.0))) f w.1.1
+pub truncate_read : (text rest : List ℕ) (r : Result ℕ TextFault) (o : Result Transform TextFault)
+    → WidthReading rest r → text ≡ codes "truncate" ++ rest → MatchResult r (λ n. o ≡ Ok (Truncate n)) (λ f. o ≡ Err f) → LooseReading text o
+truncate_read text rest (Ok n) o w e m = subst (LooseReading text) (sym m) (w.0, ((rest, (e, w.1.0)), w.1.1))
+truncate_read text rest (Err f) o w e m = subst (LooseReading text) (sym m) (refused_width text w.0 (inr (rest, (e, w.1.0))) f w.1.1)
 
 -- a fixed word, or no word
 pub fixed_or_unknown : (text : List ℕ) (o : Option Transform) → FixedReading text o → NotBegun (codes "bucket") text → NotBegun (codes "truncate") text → LooseReading text (ok_or o WordUnknown)

@@ -8,7 +8,7 @@ ghost use Rattle.texts.specs.Reading.{LooseReading, StrictReading};
 ghost use Rattle.texts.specs.Promises.{AcceptsExactlyThePrinted, ReadLooselyToo, SameTextExactlyWhenSameTransform};
 
 use super::fault::TextFault;
-use super::print::{OutputShort, print};
+use super::print::print;
 use transforms::transform::Transform;
 
 // Reads a word, and after bucket and truncate a width in any number of brackets.
@@ -16,11 +16,11 @@ pub fn loose(text: &[u8]) -> Result<Transform, TextFault>
     ensures reading { LooseReading text.now result }
     ensures only { (s : Result Transform TextFault) → LooseReading text.now s → s ≡ result }
 {
-    if let [b'b', b'u', b'c', b'k', b'e', b't', rest @ ..] = text {
-        return Ok(Transform::Bucket(width(rest)?));
+    if let Some(rest) = text.strip_prefix(b"bucket") {
+        return width(rest).map(Transform::Bucket);
     }
-    if let [b't', b'r', b'u', b'n', b'c', b'a', b't', b'e', rest @ ..] = text {
-        return Ok(Transform::Truncate(width(rest)?));
+    if let Some(rest) = text.strip_prefix(b"truncate") {
+        return width(rest).map(Transform::Truncate);
     }
     fixed(text).ok_or(TextFault::WordUnknown)
 }
@@ -32,20 +32,13 @@ pub fn strict(text: &[u8]) -> Result<Transform, TextFault>
     ensures loosely { ReadLooselyToo text.now result }
     ensures same { SameTextExactlyWhenSameTransform }
 {
-    let transform = match loose(text) {
-        Ok(transform) => transform,
-        Err(_) => return Err(TextFault::NotPrinted),
-    };
+    let transform = loose(text).map_err(|_| TextFault::NotPrinted)?;
     let mut room = [0u8; 20];
-    match print(transform, &mut room) {
-        Ok(n) => {
-            if &room[0..n] == text {
-                Ok(transform)
-            } else {
-                Err(TextFault::NotPrinted)
-            }
-        }
-        Err(OutputShort) => Err(TextFault::NotPrinted),
+    let n = print(transform, &mut room).map_err(|_| TextFault::NotPrinted)?;
+    if &room[..n] == text {
+        Ok(transform)
+    } else {
+        Err(TextFault::NotPrinted)
     }
 }
 
@@ -71,13 +64,9 @@ fn width(text: &[u8]) -> Result<u32, TextFault>
     let bare = before_close(past_open(text));
     match bare {
         [] => Err(TextFault::WidthMissing),
-        [b, rest @ ..] => match *b as char {
-            '+' => match rest {
-                [] => Err(TextFault::WidthNonDigit),
-                _ => digits(rest),
-            },
-            _ => digits(bare),
-        },
+        [b'+'] => Err(TextFault::WidthNonDigit),
+        [b'+', rest @ ..] => digits(rest),
+        _ => digits(bare),
     }
 }
 
@@ -85,11 +74,8 @@ fn past_open(text: &[u8]) -> &[u8]
     ensures { OpenGone text.now result.now }
 {
     let mut rest = text;
-    while let [b, after @ ..] = rest {
-        match *b as char {
-            '[' => rest = after,
-            _ => return rest,
-        }
+    while let Some(after) = rest.strip_prefix(b"[") {
+        rest = after;
     }
     rest
 }
@@ -98,31 +84,24 @@ fn before_close(text: &[u8]) -> &[u8]
     ensures { CloseGone text.now result.now }
 {
     let mut rest = text;
-    while let [before @ .., b] = rest {
-        match *b as char {
-            ']' => rest = before,
-            _ => return rest,
-        }
+    while let Some(before) = rest.strip_suffix(b"]") {
+        rest = before;
     }
     rest
 }
 
 // The number that digits spell, of 32 bits.
+// kept: no plainer, because `parse` takes a str and doesn't promise which of two wrong places came first.
 fn digits(text: &[u8]) -> Result<u32, TextFault>
     ensures { DigitsReading text.now result }
 {
     let mut n: u32 = 0;
     for b in text {
-        match *b as char {
-            '0'..='9' => {
-                let digit = (*b - b'0') as u32;
-                if n > (u32::MAX - digit) / 10 {
-                    return Err(TextFault::WidthOverflow);
-                }
-                n = n * 10 + digit;
-            }
-            _ => return Err(TextFault::WidthNonDigit),
-        }
+        let digit = char::from(*b).to_digit(10).ok_or(TextFault::WidthNonDigit)?;
+        n = n
+            .checked_mul(10)
+            .and_then(|n| n.checked_add(digit))
+            .ok_or(TextFault::WidthOverflow)?;
     }
     Ok(n)
 }

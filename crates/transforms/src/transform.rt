@@ -1,8 +1,10 @@
 // Transforms: what a field makes of its source's values.
 ghost use Rattle.std.specs.Prelude.{◌≡◌, Some, Decides};
+ghost use Rattle.std.specs.Option.{option_map};
 ghost use Rattle.std.specs.Result.{result_ok};
 ghost use Rattle.transforms.specs.Documented.{AsDocumented};
 ghost use Rattle.transforms.specs.Orders.{preserves, fineness, Satisfies, Alike, SatisfyingIsAPartialOrder};
+ghost use Rattle.transforms.specs.Units.{rank};
 ghost use Rattle.transforms.specs.Results.{told, primitive_result, nested_result, ResultType};
 
 use crate::datatypes::{PrimitiveType, Type};
@@ -22,6 +24,15 @@ pub enum Transform {
     Hour,
     Void,
     Unknown,
+}
+
+// What time is cut by, from coarse to fine.
+#[derive(Clone, Copy, PartialEq, Eq, PartialOrd, Ord)]
+enum TimeUnit {
+    Year,
+    Month,
+    Day,
+    Hour,
 }
 
 // Why a transform and a type don't go together.
@@ -48,17 +59,11 @@ impl Transform {
         ensures rule { ResultType self.now input_type.now result }
         ensures documented { AsDocumented self.now input_type.now (result_ok result) }
     {
-        let result = match *input_type {
-            Type::Primitive(source) => match self.primitive_result(source) {
-                Some(result) => Some(Type::Primitive(result)),
-                None => None,
-            },
+        match *input_type {
+            Type::Primitive(source) => self.primitive_result(source).map(Type::Primitive),
             nested => self.nested_result(nested),
-        };
-        match result {
-            Some(result) => Ok(result),
-            None => Err(TypeFault::NoResult),
         }
+        .ok_or(TypeFault::NoResult)
     }
 
     fn primitive_result(&self, source: PrimitiveType) -> Option<PrimitiveType>
@@ -102,21 +107,21 @@ impl Transform {
         ensures cases { Decides result (Satisfies self.now other.now) }
         ensures order { SatisfyingIsAPartialOrder }
     {
-        match (self.fineness(), other.fineness()) {
+        match (self.time_unit(), other.time_unit()) {
             (Some(own), Some(wanted)) => wanted <= own,
             _ => *self == *other || (*self == Transform::Identity && other.preserves_order()),
         }
     }
 
-    // How fine this transform cuts time, if it does.
-    fn fineness(&self) -> Option<u8>
-        ensures { result ≡ fineness self.now }
+    // The unit that this transform cuts time by, if it does.
+    fn time_unit(&self) -> Option<TimeUnit>
+        ensures { option_map rank result ≡ fineness self.now }
     {
         match *self {
-            Transform::Year => Some(1),
-            Transform::Month => Some(2),
-            Transform::Day => Some(3),
-            Transform::Hour => Some(4),
+            Transform::Year => Some(TimeUnit::Year),
+            Transform::Month => Some(TimeUnit::Month),
+            Transform::Day => Some(TimeUnit::Day),
+            Transform::Hour => Some(TimeUnit::Hour),
             _ => None,
         }
     }
@@ -125,6 +130,6 @@ impl Transform {
     pub fn alike(&self, other: &Transform) -> bool
         ensures { Decides result (Alike self.now other.now) }
     {
-        *self == *other || (self.fineness().is_some() && other.fineness().is_some())
+        *self == *other || (self.time_unit().is_some() && other.time_unit().is_some())
     }
 }

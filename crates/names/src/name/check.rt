@@ -20,10 +20,7 @@ pub fn check_name(bytes: &[u8]) -> Result<(), NameFault>
     if bytes.len() > MAX_LEN {
         return Err(NameFault::Long);
     }
-    match check_utf8(bytes) {
-        Ok(()) => Ok(()),
-        Err(front) => Err(NameFault::NotUtf8 { front }),
-    }
+    check_utf8(bytes).map_err(|front| NameFault::NotUtf8 { front })
 }
 
 impl Fault for NameFault {

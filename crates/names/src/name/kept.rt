@@ -17,7 +17,7 @@ impl Name {
     {
         check_name(bytes)?;
         let mut kept = [0u8; MAX_LEN];
-        kept[0..bytes.len()].copy_from_slice(bytes);
+        kept[..bytes.len()].copy_from_slice(bytes);
         Ok(Name {
             bytes: kept,
             len: bytes.len() as u8,
@@ -28,10 +28,11 @@ impl Name {
         ensures same { result.now ≡ name_bytes self.now }
         ensures good { GoodName result.now }
     {
-        &self.bytes[0..self.len as usize]
+        &self.bytes[..usize::from(self.len)]
     }
 }
 
+// kept: no plainer, because a derive would compare the spare bytes and promise no more than `value`.
 impl PartialEq for Name {
     ghost eq = { on name_bytes (pointwise nat_eq) };
 

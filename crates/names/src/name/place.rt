@@ -11,9 +11,6 @@ impl NamePlace {
         ensures { option_map (λ x. x.now) result ≡ placed self.now.start self.now.length area.now }
     {
         let end = self.start.checked_add(self.length)?;
-        if end > area.len() {
-            return None;
-        }
-        Some(&area[self.start..end])
+        area.get(self.start..end)
     }
 }

@@ -2,8 +2,8 @@
 use Rattle.std.proofs.Common.{◌≡◌, ℕ, ◌++◌, length, replicate}
 use Rattle.texts.proofs.read.past_open.Given as goal
 
-abbrev pub invariant-loop-rest : goal.invariant-loop-rest
-invariant-loop-rest l = (k : ℕ) × (l.text ≡ replicate k 91 ++ l.rest)
+abbrev pub invariant-loop-after : goal.invariant-loop-after
+invariant-loop-after l = (k : ℕ) × (l.text ≡ replicate k 91 ++ l.rest)
 
-abbrev pub decreases-loop-rest : goal.decreases-loop-rest
-decreases-loop-rest l = length l.rest
+abbrev pub decreases-loop-after : goal.decreases-loop-after
+decreases-loop-after l = length l.rest
