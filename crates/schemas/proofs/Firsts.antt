@@ -1,5 +1,5 @@
 -- A lookup that answers at the first element that passes a test: by the list's own search, and when it finds something.
-use Rattle.std.proofs.Common.{Bor, ◌≡◌, ℕ, ◌<◌, Bool, true, false, cond, ◌||◌, List, [], ◌∷◌, length, is_some, Some, None, Decides, Option, sym, refl, ap, ◌∙◌}
+use Rattle.std.proofs.Common.{◌≡◌, ℕ, ◌<◌, Bool, true, false, cond, ◌||◌, List, [], ◌∷◌, length, is_some, Some, None, Decides, Option, sym, refl, ap, ◌∙◌}
 use Rattle.std.specs.List.{HoldsAt, find}
 use Rattle.std.specs.Option.{option_map, MatchOption, IsSomeAnd}
 use Rattle.std.proofs.lemmas.Bool.Decides.{Decides-by_or}
@@ -20,10 +20,11 @@ of_found {X} l (x ∷ xs) = at (l.test x) (of_found l xs) ∙ sym (l.more x xs)
     at false e = e
 
 -- it gives the value of what the list's own search finds
-pub mapped : {X V : Type 0} (l : Lookup X V) (xs : List X) (o : Option (Bor X)) (r : Option V) → option_map (λ x. x.now) o ≡ find l.test xs → MatchOption o (r ≡ None) (λ x. IsSomeAnd r (λ v. v ≡ l.value x.now)) → r ≡ l.find xs
-mapped l xs None r e m = m ∙ ap (option_map l.value) e ∙ of_found l xs
-mapped l xs (Some x) None e m = absurd m
-mapped l xs (Some x) (Some v) e m = ap Some m ∙ ap (option_map l.value) e ∙ of_found l xs
+pub mapped : {A X V : Type 0} (l : Lookup X V) (v : A → X) (xs : List X) (o : Option A) (r : Option V) → option_map v o ≡ find l.test xs
+    → MatchOption o (r ≡ None) (λ x. IsSomeAnd r (λ y. y ≡ l.value (v x))) → r ≡ l.find xs
+mapped l v xs None r e m = m ∙ ap (option_map l.value) e ∙ of_found l xs
+mapped l v xs (Some x) None e m = absurd m
+mapped l v xs (Some x) (Some y) e m = ap Some m ∙ ap (option_map l.value) e ∙ of_found l xs
 
 some_cond : {V : Type 0} (b : Bool) (v : V) (o : Option V) → is_some (cond b (Some v) o) ≡ (b || is_some o)
 some_cond true v o = refl

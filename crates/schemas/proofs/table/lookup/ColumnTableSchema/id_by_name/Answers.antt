@@ -13,4 +13,4 @@ returns c =
     let rs = c.args.self.now.records.now in
     let e : option_map (λ r. r.now) c.find.result ≡ find l.test rs =
     find_from_yields_List l.test _ _ c.find.result c.find.ensures.ran (YieldsList-from_slice rs cc) (λ x b q k. search (rules, tests)) in
-    mapped l rs c.find.result c.map.result e (search (rules))
+    mapped l (λ r. r.now) rs c.find.result c.map.result e (search rules)
