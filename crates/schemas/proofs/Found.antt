@@ -1,10 +1,9 @@
 -- The lookups of rows and of records, and what they find.
-use Rattle.std.proofs.Common.{◌≡◌, ℕ, zero, suc, ◌<◌, Bool, false, List, [], ◌∷◌, length, get_or, ℤ, pos, Some, None, Decides, Option, sym, refl, ap, ◌∙◌, arith}
-use Rattle.std.specs.Str.{bytes_eq}
+use Rattle.std.proofs.Common.{◌≡◌, ℕ, zero, suc, ◌<◌, false, List, [], ◌∷◌, length, get_or, ℤ, pos, Some, None, Decides, Option, sym, refl, ap, ◌∙◌, arith}
 use Rattle.std.proofs.lemmas.Slice.Eq.{bytes_eq-Decides}
 use Rattle.std.proofs.lemmas.List.{get_or_default}
 use Rattle.std.proofs.lemmas.Bool.{cond-true, cond-false}
-use Rattle.std.proofs.lemmas.Bool.Decides.{Decides-like, same_from_decides}
+use Rattle.std.proofs.lemmas.Bool.Decides.{Decides-like}
 use Rattle.transforms.specs.declared.datatypes.PrimitiveType.TheVariants.{Boolean}
 use Rattle.transforms.specs.declared.datatypes.«Type».TheVariants.{Primitive}
 use Rattle.schemas.specs.declared.schema.Column.{Column}
@@ -38,9 +37,6 @@ id_by_record area name =
 pub called_decides : (o : Option (List ℕ)) (name : List ℕ) → Decides (is_called o name) (o ≡ Some name)
 called_decides None name = (λ e. cc, λ e. cc)
 called_decides (Some own) name = Decides-like _ (λ e. ap Some e) (λ e. cc) (bytes_eq-Decides own name)
-
-pub called : (own name : List ℕ) (o : Option (List ℕ)) (r : Bool) → Some own ≡ o → Decides r (own ≡ name) → r ≡ is_called o name
-called own name o r e d = same_from_decides r (bytes_eq own name) d (bytes_eq-Decides own name) ∙ ap (λ p. is_called p name) e
 
 -- a lookup of rows whose test decides that a row's key is v
 module _ {V W : Type 0} (l : Lookup Row V) (key : Row → W) (v : W) (decides : (row : Row) → Decides (l.test row) (key row ≡ v)) where

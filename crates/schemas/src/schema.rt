@@ -29,20 +29,28 @@ pub trait Schema {
     fn field_by_id(&self, id: i32) -> Option<Column>
         ensures { result ≡ (columns self.now).by_id id };
 
+    fn id_by_name(&self, name: &[u8]) -> Option<i32>
+        ensures { result ≡ (columns self.now).by_name name.now };
+
+    // The type is that of the id's column, so that both lookups agree where an id repeats.
     fn field_by_name(&self, name: &[u8]) -> Option<NamedColumn>
         ensures named { result ≡ named_in (columns self.now) name.now }
-        ensures leads { option_map id_of result ≡ (columns self.now).by_name name.now };
+        ensures leads { option_map id_of result ≡ (columns self.now).by_name name.now }
+    {
+        let id = self.id_by_name(name)?;
+        let column = self.field_by_id(id)?;
+        Some(NamedColumn {
+            id,
+            field_type: column.field_type,
+        })
+    }
 }
 
 // Whatever is told of a schema's columns is told of any other that shows the same.
-pub fn same_columns_are_equal() -> u8
+pub fn same_columns_are_equal()
     ensures { SameColumnsAreEqual }
-{
-    0
-}
+{}
 
-pub fn same_columns_same_answers() -> u8
+pub fn same_columns_same_answers()
     ensures { SameColumnsSameAnswers }
-{
-    0
-}
+{}

@@ -1,8 +1,7 @@
 -- Rows one after another: a step over the first, and where there is none.
-use Rattle.std.proofs.Common.{◌≡◌, ℕ, suc, ◌+◌, ◌-◌, ◌<◌, ◌≤◌, Bool, false, eqb, List, [], ◌∷◌, ◌++◌, length, Decides, sym, refl, ap, ◌∙◌, subst, arith}
+use Rattle.std.proofs.Common.{◌≡◌, ℕ, suc, ◌+◌, ◌-◌, ◌<◌, false, List, [], ◌∷◌, ◌++◌, length, Decides, sym, refl, ap, ◌∙◌, arith}
 use Rattle.std.specs.List.{flat_map}
-use Rattle.std.proofs.lemmas.List.{nil_from_length}
-use Rattle.std.proofs.lemmas.Bool.{eq-eqb, eqb-true, false≢true}
+use Rattle.std.proofs.lemmas.Bool.{false≢true}
 use Rattle.sheets.specs.Standing.{Begins, Holds, Filled}
 use Rattle.sheets.specs.Sheets.{SheetRow, row_bytes}
 use Rattle.sheets.proofs.Fronts.{placed}
@@ -41,12 +40,6 @@ filled_less bs row rest k n e b f =
 pub filled_no : (bs : List ℕ) (n : ℕ) → 0 < n → ((row : SheetRow) (rest : List ℕ) → Begins bs row rest → ⊥) → Filled bs n → ⊥
 filled_no bs n h none f = omega (arith, f.many, ap length (holds_none bs f.rows f.holds none))
 
-pub filled_all : (bs : List ℕ) → bs ≡ [] → Filled bs 0
-filled_all bs e = record { rows = []; many = refl; holds = record { is = e; each = tt } }
-
-pub filled_end : (bs : List ℕ) → Filled bs 0 → bs ≡ []
-filled_end bs f = f.holds.is ∙ ap (flat_map row_bytes) (nil_from_length f.rows f.many)
-
 -- the one has its rows exactly when the other has
 abbrev pub Alike : List ℕ → ℕ → List ℕ → ℕ → Type 0
 Alike rest m bytes n = (Filled rest m → Filled bytes n) × (Filled bytes n → Filled rest m)
@@ -60,10 +53,3 @@ module _ (bytes rest : List ℕ) (count i : ℕ) (alike : Alike rest (count - i)
 
   pub alike_none : i < count → ((row : SheetRow) (after : List ℕ) → Begins rest row after → ⊥) → Decides false (Filled bytes count)
   alike_none lt none = (λ e. absurd (false≢true e), λ f. absurd (filled_no rest (count - i) (omega arith) none (alike.1 f)))
-
-  pub alike_all : (r : Bool) → count ≤ i → r ≡ eqb (length rest) 0 → Decides r (Filled bytes count)
-  alike_all r le e =
-      let over : count - i ≡ 0 = omega arith in (
-        λ t. alike.0 (subst (Filled rest) (sym over) (filled_all rest (nil_from_length rest (eqb-true (length rest) 0 (sym e ∙ t))))),
-        λ f. e ∙ eq-eqb (length rest) 0 (ap length (filled_end rest (subst (Filled rest) over (alike.1 f)))),
-      )

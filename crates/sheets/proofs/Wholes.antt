@@ -1,7 +1,9 @@
 -- Whole sheets: their rows are read back, so they are unique, and the test of bytes is exact.
-use Rattle.std.proofs.Common.{◌≡◌, ℕ, zero, suc, ◌+◌, ◌-◌, ◌%◌, ◌^◌, ◌<◌, ◌≤◌, Bool, true, false, ltb, List, [], ◌∷◌, ◌++◌, map, length, get_or, take, drop, Decides, sym, refl, ap, ◌∙◌, subst, ⊎_elim, append_assoc, arith, length-append, take-append-drop}
+use Rattle.std.proofs.Common.{Bor, is_some, None, Some, Option, ◌≡◌, ℕ, zero, suc, ◌+◌, ◌-◌, ◌%◌, ◌^◌, ◌<◌, ◌≤◌, Bool, true, false, ltb, List, [], ◌∷◌, ◌++◌, map, length, get_or, take, drop, Decides, sym, refl, ap, ◌∙◌, subst, ⊎_elim, append_assoc, arith, length-append, take-append-drop}
 use mir.Facts.{sfits_to_z}
 use Rattle.std.specs.List.{flat_map, AllByRecursion}
+use Rattle.std.specs.Bool.{then_some}
+use Rattle.std.specs.Option.{option_copied, unwrap_or}
 use Rattle.std.specs.Str.{bytes_eq}
 use Rattle.std.proofs.ByRecursion.{All-drop, All-get_or, Decides-by_and}
 use Rattle.std.proofs.lemmas.Slice.Eq.{bytes_eq-Decides}
@@ -16,7 +18,7 @@ use Rattle.schemas.specs.Rows.{shown}
 use Rattle.transforms.specs.declared.datatypes.PrimitiveType.TheVariants.{Boolean}
 use Rattle.transforms.specs.declared.datatypes.«Type».TheVariants.{Primitive}
 use Rattle.sheets.specs.TypeCodes.{parameters, Fit}
-use Rattle.sheets.specs.Decoded.{types, row_at, rows_at, guess, are_bytes, is_sheet, rows_of}
+use Rattle.sheets.specs.Decoded.{types, row_at, rows_at, guess, are_bytes, is_sheet, rows_of, body_of}
 use Rattle.sheets.specs.Standing.{Holds, Filled}
 use Rattle.sheets.specs.Sheets.{SheetRow, RowFits, row_bytes, sheet_bytes, SheetOf, IsSheet, UniqueRows}
 use Rattle.sheets.specs.SheetColumns.{named, Shows}
@@ -178,21 +180,52 @@ module _ (bs : List ℕ) (count distance : ℕ) (few : count < 65536) (short : d
       f)
       (sheet_decides bs)
 
--- the rows of what was tested
-pub sound_holds : (bs : List ℕ) → is_sheet bs ≡ true → (4 ≤ length bs) × Holds (take (length bs - 4 - 0) bs) (rows_of bs)
+pub no_body : (bs : List ℕ) → length bs < 4 → None ≡ body_of bs
+unfolding body_of
+no_body bs h = ap (λ b. then_some b (take (length bs - 4) bs)) (no_trailer bs h)
+
+pub body_told : (bs : List ℕ) (b : Bool) (body : Bor (List ℕ)) (o : Option (Bor (List ℕ))) → o ≡ then_some b body → b ≡ is_sheet bs → body.now ≡ take (length bs - 4) bs → option_copied o ≡ body_of bs
+unfolding body_of
+body_told bs b body o e t f = ap option_copied e ∙ at b ∙ (λ i. then_some (t i) (f i))
+  where
+    at : (b : Bool) → option_copied (then_some b body) ≡ then_some b body.now
+    at true = refl
+    at false = refl
+
+pub some_body : (bs : List ℕ) (o : Option (Bor (List ℕ))) → option_copied o ≡ body_of bs → is_some o ≡ is_sheet bs
+unfolding body_of
+some_body bs o e = copied o ∙ ap is_some e ∙ at (is_sheet bs)
+  where
+    copied : (o : Option (Bor (List ℕ))) → is_some o ≡ is_some (option_copied o)
+    copied None = refl
+    copied (Some x) = refl
+
+    at : (b : Bool) → is_some (then_some b (take (length bs - 4) bs)) ≡ b
+    at true = refl
+    at false = refl
+
+sound_holds : (bs : List ℕ) → is_sheet bs ≡ true → Holds (take (length bs - 4) bs) (rows_of bs)
 sound_holds bs t =
     let s = (sheet_decides bs).0 t in
     let p = parts bs s.0 s.1.is in
-    let cut : length bs - 4 - 0 ≡ length bs - 4 = omega arith in (
-      omega (arith, p.long),
-      record {
-        is = ap (λ k. take k bs) cut ∙ p.body ∙ ap (flat_map row_bytes) (sym (rows_are bs s.0 s.1));
-        each = subst (AllByRecursion RowFits) (sym (rows_are bs s.0 s.1)) s.1.each;
-      },
-    )
+    record {
+      is = p.body ∙ ap (flat_map row_bytes) (sym (rows_are bs s.0 s.1));
+      each = subst (AllByRecursion RowFits) (sym (rows_are bs s.0 s.1)) s.1.each;
+    }
 
-pub unsound_holds : (bs : List ℕ) → is_sheet bs ≡ false → Holds [] (rows_of bs)
+unsound_holds : (bs : List ℕ) → is_sheet bs ≡ false → Holds [] (rows_of bs)
 unsound_holds bs e = subst (Holds []) (sym (rows_none bs e)) (record { is = refl; each = tt })
+
+-- the rows of what was tested, or none
+pub rows_hold : (bs : List ℕ) (o : Option (Bor (List ℕ))) (none : Bor (List ℕ)) → none.now ≡ [] → option_copied o ≡ body_of bs → Holds (unwrap_or o none).now (rows_of bs)
+unfolding body_of
+rows_hold bs o none n e = at (is_sheet bs) refl o e
+  where
+    at : (b : Bool) → is_sheet bs ≡ b → (o : Option (Bor (List ℕ))) → option_copied o ≡ then_some b (take (length bs - 4) bs) → Holds (unwrap_or o none).now (rows_of bs)
+    at true t None e = cc
+    at true t (Some x) e = let q : x.now ≡ take (length bs - 4) bs = cc in subst (λ l. Holds l (rows_of bs)) (sym q) (sound_holds bs t)
+    at false t None e = subst (λ l. Holds l (rows_of bs)) (sym n) (unsound_holds bs t)
+    at false t (Some x) e = cc
 
 pub shows : (bs : List ℕ) → Shows bs
 shows bs =

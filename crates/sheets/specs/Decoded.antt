@@ -1,5 +1,6 @@
 -- The rows of a sheet, computed from its bytes: a guess by places, kept where the bytes are its sheet. Assumes nothing.
-use Rattle.std.specs.Prelude.{ℕ, zero, suc, ◌+◌, ◌-◌, ◌*◌, ◌/◌, ◌%◌, Bool, true, cond, ◌&&◌, List, [], ◌∷◌, length, take, drop, nat_le, nat_lt, slice_index, slice_index_or}
+use Rattle.std.specs.Prelude.{ℕ, zero, suc, ◌+◌, ◌-◌, ◌*◌, ◌/◌, ◌%◌, Bool, true, cond, ◌&&◌, List, [], ◌∷◌, length, take, drop, nat_le, nat_lt, slice_index, slice_index_or, Option}
+use Rattle.std.specs.Bool.{then_some}
 use Rattle.std.specs.Str.{bytes_eq}
 use Rattle.octets.specs.BigEndian.{number, id_number}
 use Rattle.schemas.specs.declared.schema.Column.{Column}
@@ -48,3 +49,7 @@ is_sheet bs = bytes_eq bs (sheet_bytes (guess bs)) && (are_bytes bs && nat_lt (l
 -- bytes that are no sheet have none
 unfoldable pub rows_of : List ℕ → List SheetRow
 rows_of bs = cond (is_sheet bs) (guess bs) []
+
+-- the bytes of the rows, all but the last four
+unfoldable pub body_of : List ℕ → Option (List ℕ)
+body_of bs = then_some (is_sheet bs) (take (length bs - 4) bs)

@@ -1,7 +1,8 @@
 // Column sheets: rows, then their count and the distance back to the first, two bytes each. A row: id (4 bytes), code of
 // the type (1), parameters of the type (8), length of the name (1), name. Numbers are big-endian, ids in two's complement.
 ghost use Rattle.std.specs.Prelude.{◌≡◌};
-ghost use Rattle.sheets.specs.Decoded.{is_sheet};
+ghost use Rattle.std.specs.Option.{option_copied};
+ghost use Rattle.sheets.specs.Decoded.{body_of};
 
 mod check;
 mod code;
@@ -12,6 +13,7 @@ mod row;
 #[derive(Clone, Copy)]
 pub struct ColumnSheet<'a> {
     bytes: &'a [u8],
-    sound: bool,
-    ghost checked: { sound ≡ is_sheet bytes.now },
+    // the bytes of the rows, where the bytes are a sound sheet
+    rows: Option<&'a [u8]>,
+    ghost checked: { option_copied rows ≡ body_of bytes.now },
 }

@@ -12,6 +12,7 @@ impl<'a> ColumnTable<'a> {
         ensures { Decides result (Regular (table_rows self.now)) }
     {
         let mut left = self.records;
+        // kept: no plainer, because each record is asked of those after it
         while let [row, later @ ..] = left {
             let rest = ColumnTable {
                 records: later,
@@ -30,7 +31,7 @@ impl<'a> ColumnTable<'a> {
         ensures { Decides result (New (row_of self.now.names.now row.now) (table_rows self.now)) }
     {
         match row.name.of(self.names) {
-            Some(name) => self.field_by_id(row.id).is_none() && self.id_named(name).is_none(),
+            Some(name) => self.field_by_id(row.id).is_none() && self.id_by_name(name).is_none(),
             None => false,
         }
     }

@@ -1,16 +1,17 @@
 // Whether bytes are a sheet.
 ghost use Rattle.std.specs.Prelude.{◌≡◌, Decides};
-ghost use Rattle.sheets.specs.Decoded.{is_sheet};
+ghost use Rattle.std.specs.Option.{option_copied};
+ghost use Rattle.sheets.specs.Decoded.{body_of};
 ghost use Rattle.sheets.specs.Standing.{Filled};
 ghost use Rattle.sheets.specs.SheetColumns.{Shows};
 ghost use Rattle.sheets.specs.Sheets.{IsSheet, UniqueRows};
 
 use super::ColumnSheet;
-use super::row::first_row;
+use super::row::Rows;
 use octets::read::u16_at;
 
 // The bytes after the rows.
-pub(super) const TRAILER: usize = 4;
+const TRAILER: usize = 4;
 
 impl<'a> ColumnSheet<'a> {
     pub fn new(bytes: &'a [u8]) -> ColumnSheet<'a>
@@ -20,40 +21,37 @@ impl<'a> ColumnSheet<'a> {
     {
         ColumnSheet {
             bytes,
-            sound: is_sheet(bytes),
+            rows: rows_of_sheet(bytes),
         }
     }
 
     pub fn is_sound(&self) -> bool
         ensures { Decides result (IsSheet self.now.bytes.now) }
     {
-        self.sound
+        self.rows.is_some()
     }
 }
 
-fn is_sheet(bytes: &[u8]) -> bool
-    ensures { result ≡ is_sheet bytes.now }
+// The bytes of a sheet's rows, where the bytes are a sheet.
+fn rows_of_sheet<'a>(bytes: &'a [u8]) -> Option<&'a [u8]>
+    ensures { option_copied result ≡ body_of bytes.now }
 {
-    if bytes.len() < TRAILER {
-        return false;
-    }
-    let end = bytes.len() - TRAILER;
-    let (Some(count), Some(distance)) = (u16_at(bytes, end), u16_at(bytes, end + 2)) else {
-        return false;
-    };
-    distance as usize == end && are_rows(&bytes[0..end], count)
+    let end = bytes.len().checked_sub(TRAILER)?;
+    let count = u16_at(bytes, end)?;
+    let distance = u16_at(bytes, end + 2)?;
+    let body = &bytes[..end];
+    (distance as usize == end && are_rows(body, count)).then_some(body)
 }
 
 // Whether the bytes are so many rows.
 fn are_rows(bytes: &[u8], count: u16) -> bool
     ensures { Decides result (Filled bytes.now count) }
 {
-    let mut rest = bytes;
+    let mut rows = Rows { left: bytes };
     for _ in 0..count {
-        match first_row(rest) {
-            Some(row) => rest = row.rest,
-            None => return false,
+        if rows.next().is_none() {
+            return false;
         }
     }
-    rest.is_empty()
+    rows.left.is_empty()
 }

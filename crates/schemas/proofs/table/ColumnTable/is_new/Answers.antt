@@ -12,7 +12,7 @@ returns-then-is_none c =
     let id-none : is_some (column_in (table_rows table) c.args.row.now.id) ≡ not c.is_none.result =
     ap is_some (ap (column_in (table_rows table)) (sym (to_z-of_z w32 _ fits)) ∙ sym c.field_by_id.ensures) ∙ c.is_none.ensures in
     new_by_both (row_of table.names.now c.args.row.now) (table_rows table) c.in-Some.name.now _ _ c.in-Some.ensures id-none
-    (ap is_some (sym c.id_named.ensures) ∙ c.is_none-then-is_none.ensures) c.if-is_none.true
+    (ap is_some (sym c.id_by_name.ensures) ∙ c.is_none-then-is_none.ensures) c.if-is_none.true
 
 pub returns-else-is_none : goal.returns-else-is_none
 returns-else-is_none c =

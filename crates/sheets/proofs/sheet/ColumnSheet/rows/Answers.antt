@@ -1,12 +1,10 @@
-use Rattle.std.proofs.Common.{sym, ◌∙◌}
-use Rattle.sheets.proofs.Wholes.{sound_holds, unsound_holds}
+use Rattle.std.proofs.Common.{refl, subst, sym}
+use Rattle.sheets.specs.Standing.{Holds}
+use Rattle.sheets.specs.Decoded.{rows_of}
+use Rattle.sheets.proofs.Wholes.{rows_hold}
 use Rattle.sheets.proofs.sheet.ColumnSheet.rows.Goals as goal
 
-pub overflow_sub-result : goal.overflow_sub-result
-overflow_sub-result c = (sound_holds _ (sym c.args.self.now.checked ∙ c.if-self.true)).0
-
-pub returns-then-self : goal.returns-then-self
-returns-then-self c = (sound_holds _ (sym c.args.self.now.checked ∙ c.if-self.true)).1
-
-pub returns-else-self : goal.returns-else-self
-returns-else-self c = unsound_holds _ (sym c.args.self.now.checked ∙ c.if-self.false)
+pub returns : goal.returns
+returns c =
+    let bs = c.args.self.now.bytes.now in
+    subst (λ b. Holds b.now (rows_of bs)) (sym c.unwrap_or.ensures) (rows_hold bs c.args.self.now.rows _ refl c.args.self.now.checked)
