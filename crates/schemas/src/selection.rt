@@ -1,8 +1,8 @@
 // Selections: a schema of which only some ids are shown.
-ghost use Rattle.std.specs.Prelude.{◌≤◌, vec_len, vec_capacity};
 ghost use Rattle.schemas.specs.Ids.{Distinct};
 
 use crate::schema::Schema;
+use bounded::Bounded;
 
 mod fault;
 mod select;
@@ -20,8 +20,6 @@ pub enum SelectionFault {
 pub struct Selection<'a, S: Schema> {
     under: &'a S,
     // in the order in which they were selected
-    ids: Vec<i32>,
-    ghost few: { vec_len ids ≤ 64 },
-    ghost room: { 64 ≤ vec_capacity ids },
-    ghost distinct: { Distinct ids.items },
+    ids: Bounded<i32, MAX_IDS>,
+    ghost distinct: { Distinct ids },
 }

@@ -7,9 +7,9 @@ use super::select::is_among;
 use crate::schema::{Column, Schema};
 
 impl<'a, S: Schema> Schema for Selection<'a, S> {
-    ghost columns = { λ s. selected s.ids.items (S.Schema.columns s.under.now) };
+    ghost columns = { λ s. selected s.ids (S.Schema.columns s.under.now) };
 
-    ghost sound = { λ s. selected_sound s.ids.items (S.Schema.columns s.under.now) (S.Schema.sound s.under.now) };
+    ghost sound = { λ s. selected_sound s.ids (S.Schema.columns s.under.now) (S.Schema.sound s.under.now) };
 
     fn field_by_id(&self, id: i32) -> Option<Column> {
         if is_among(self.ids.as_slice(), id) {

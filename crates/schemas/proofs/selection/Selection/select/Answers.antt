@@ -1,8 +1,10 @@
-use Rattle.std.proofs.Common.{vec_items, w32, to_z, of_z, rules}
-use Rattle.schemas.proofs.Distinction.{distinct_after}
+-- An id that is not among the others is pushed, or there is no room.
+use Rattle.std.proofs.Common.{w32, to_z, of_z, rules}
+use Rattle.schemas.proofs.Distinction.{distinct_pushed}
 use Rattle.schemas.proofs.selection.Selection.select.Goals as goal
 
-pub invariant_of-self-clause-distinct : goal.invariant_of-self-clause-distinct
-invariant_of-self-clause-distinct g c =
-    distinct_after (vec_items c.args.self.now.ids) c.as_slice.result.now (vec_items c.push_reserved.new.self) (to_z w32 (of_z w32 c.args.id))
-    c.args.self.now.distinct c.as_slice.ensures.value (search rules) c.push_reserved.ensures.items
+pub invariant_of-self : goal.invariant_of-self
+invariant_of-self g c = record {
+  distinct = distinct_pushed c.args.self.now.ids c.as_slice.result.now c.push.new.self (to_z w32 (of_z w32 c.args.id)) c.push.result
+      c.args.self.now.distinct c.as_slice.ensures.value (search rules) c.push.ensures
+}

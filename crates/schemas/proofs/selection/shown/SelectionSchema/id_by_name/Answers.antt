@@ -5,5 +5,5 @@ use Rattle.schemas.proofs.selection.shown.SelectionSchema.id_by_name.Goals as go
 
 pub returns : goal.returns
 returns g c =
-    let ids = c.args.self.now.ids.items in
+    let ids = c.args.self.now.ids in
     only_filtered ids _ _ _ c.filter.ensures (λ id b p. search (rules, tests)) ∙ ap (only_in ids) c.id_by_name.ensures
