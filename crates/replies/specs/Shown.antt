@@ -1,17 +1,15 @@
 -- The line that an answer is printed as. Assumes nothing.
 use Rattle.std.specs.Prelude.{ℕ, cond, List, ◌++◌, string_bytes, codes}
-use Rattle.faults.specs.Refusals.{told_by, refusal_text}
 use Rattle.transforms.specs.Printed.{printed}
 use Rattle.transforms.specs.Types.{type_text}
 use Rattle.replies.specs.declared.answer.Answer.{Answer}
-use Rattle.replies.specs.declared.answer.Answer.TheVariants.{Done, Printed, ResultIs, Test, Refused, Line, NoSpec, NotHere, NotYet}
+use Rattle.replies.specs.declared.answer.Answer.TheVariants.{Done, Printed, ResultIs, Test, Line, NoSpec, NotHere, NotYet}
 
 abbrev pub answer_text : Answer → List ℕ
 answer_text Done = codes "ok"
 answer_text (Printed t) = codes "ok " ++ printed t
 answer_text (ResultIs t) = codes "ok " ++ type_text t
 answer_text (Test b) = cond b (codes "yes") (codes "no")
-answer_text (Refused r) = refusal_text (told_by r)
 answer_text (Line line) = string_bytes line
 answer_text NoSpec = codes "no-spec"
 answer_text NotHere = codes "not-here"

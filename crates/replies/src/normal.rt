@@ -13,30 +13,26 @@ pub enum Normal {
     Same(Transform),
     // the text is read as the transform, and is not its printed one
     Other(Transform),
-    Refused(Refusal),
 }
 
 // Which transform a text means, and whether it is the printed text.
-pub fn normalise(text: &[u8]) -> Normal
+pub fn normalise(text: &[u8]) -> Result<Normal, Refusal>
     ensures { Normalised text.now result }
 {
     if let Ok(transform) = strict(text) {
-        return Normal::Same(transform);
+        return Ok(Normal::Same(transform));
     }
-    match loose(text) {
-        Ok(transform) => Normal::Other(transform),
-        Err(fault) => Normal::Refused(Refusal::of(&fault)),
-    }
+    let transform = loose(text)?;
+    Ok(Normal::Other(transform))
 }
 
 impl Normal {
-    // The transform that the text means, if it means one.
-    pub fn transform(&self) -> Option<Transform>
+    // The transform that the text means.
+    pub fn transform(&self) -> Transform
         ensures { result ≡ meant self.now }
     {
         match *self {
-            Normal::Same(transform) | Normal::Other(transform) => Some(transform),
-            Normal::Refused(_) => None,
+            Normal::Same(transform) | Normal::Other(transform) => transform,
         }
     }
 }
@@ -48,7 +44,6 @@ impl fmt::Display for Normal {
         match *self {
             Normal::Same(transform) => write!(f, "{transform}, the printed text"),
             Normal::Other(transform) => write!(f, "{transform}, not the printed text"),
-            Normal::Refused(refusal) => write!(f, "{refusal}"),
         }
     }
 }
