@@ -1,51 +1,13 @@
 -- What holds at each place of the list of verbs holds of every verb. Assumes nothing.
-use Rattle.std.proofs.Common.{ℕ, ◌<◌, List, [], ◌∷◌, get_or, lit<}
+use Rattle.std.proofs.Common.{◌≡◌, ℕ, ◌<◌, List, length, get_or, Some, None, Option, Bor, lit<, arith, ◌≢◌}
+use Rattle.std.specs.List.{AllWithin, HoldsAt}
+use Rattle.std.specs.Option.{MatchOption, option_copied}
+use Rattle.commands.specs.Words.{word_of, NoVerb}
+use Rattle.commands.specs.declared.verb.TheConstants.{VERBS}
 use Rattle.commands.specs.declared.verb.Verb.{Verb}
 use Rattle.commands.specs.declared.verb.Verb.TheVariants.{Column, Columns, Regular, Sheet, Select, Name, Transform, Strict, Result, Preserves, Satisfies, Alike, Draft, Unbound, SpecId, Start, Add, AddByName, Batch, Close, Bind, Open, OpenBind, PartitionType, Unpartitioned, Sequential, Highest, Compatible, Equal, RecordOf, RecordUnbound, Read, Items, SortNew, SortId, Sort, SortBuild, SortBuildUnbound}
 
-abbrev pub verbs : List Verb
-verbs =
-    Column
-    ∷ Columns
-    ∷ Regular
-    ∷ Sheet
-    ∷ Select
-    ∷ Name
-    ∷ Transform
-    ∷ Strict
-    ∷ Result
-    ∷ Preserves
-    ∷ Satisfies
-    ∷ Alike
-    ∷ Draft
-    ∷ Unbound
-    ∷ SpecId
-    ∷ Start
-    ∷ Add
-    ∷ AddByName
-    ∷ Batch
-    ∷ Close
-    ∷ Bind
-    ∷ Open
-    ∷ OpenBind
-    ∷ PartitionType
-    ∷ Unpartitioned
-    ∷ Sequential
-    ∷ Highest
-    ∷ Compatible
-    ∷ Equal
-    ∷ RecordOf
-    ∷ RecordUnbound
-    ∷ Read
-    ∷ Items
-    ∷ SortNew
-    ∷ SortId
-    ∷ Sort
-    ∷ SortBuild
-    ∷ SortBuildUnbound
-    ∷ []
-
-pub of_each : (P : Verb → Type 0) → ((k : ℕ) → k < 38 → P (get_or verbs k Column)) → (verb : Verb) → P verb
+pub of_each : (P : Verb → Type 0) → ((k : ℕ) → k < 38 → P (get_or VERBS k Column)) → (verb : Verb) → P verb
 of_each P h Column = h 0 (lit< tt)
 of_each P h Columns = h 1 (lit< tt)
 of_each P h Regular = h 2 (lit< tt)
@@ -84,3 +46,11 @@ of_each P h SortId = h 34 (lit< tt)
 of_each P h Sort = h 35 (lit< tt)
 of_each P h SortBuild = h 36 (lit< tt)
 of_each P h SortBuildUnbound = h 37 (lit< tt)
+
+-- the first verb that has the word was found, or none has it
+pub found : (word : List ℕ) (r : Option (Bor Verb)) (o : Option Verb) → o ≡ option_copied r
+    → MatchOption r (AllWithin (λ verb. word_of verb ≢ word) VERBS 0 (length VERBS))
+    (λ x. (word_of x.now ≡ word) × (i : ℕ) × (i < length VERBS) × HoldsAt (λ y. y ≡ x.now) VERBS i × AllWithin (λ verb. word_of verb ≢ word) VERBS 0 i)
+    → MatchOption o (NoVerb word) (λ verb. word_of verb ≡ word)
+found word None o e none = rw e (of_each (λ verb. word_of verb ≢ word) (λ k h. none k Column (omega arith) h))
+found word (Some x) o e m = rw e m.0

@@ -2,7 +2,7 @@
 use crate::fault::ScriptFault;
 use crate::types::read_type;
 use crate::verb::Verb;
-use crate::word::{bytes, hex, id, long, maybe_id};
+use crate::word::{bytes, hex, maybe_id};
 use sorts::sort::{NullOrder, SortDirection};
 use std::alloc::Global;
 use transforms::datatypes::Type;
@@ -77,9 +77,7 @@ impl Command {
         if first.starts_with('#') {
             return Ok(None);
         }
-        let Some(verb) = Verb::read(first) else {
-            return Err(ScriptFault::BadCommand);
-        };
+        let verb = Verb::read(first).ok_or(ScriptFault::BadCommand)?;
         let command = match verb {
             Verb::Column | Verb::Columns | Verb::Regular | Verb::Sheet | Verb::Select => {
                 of_columns(heap, verb, rest)?
@@ -102,13 +100,11 @@ impl Command {
 fn of_columns(heap: Global, verb: Verb, rest: &[&str]) -> Result<Command, ScriptFault> {
     match (verb, rest) {
         (Verb::Column, [id, word, name]) => column(heap, id, word, name, false),
-        (Verb::Column, [id, word, name, mark]) if *mark == "marked" => {
-            column(heap, id, word, name, true)
-        }
-        (Verb::Columns, [word]) if *word == "clear" => Ok(Command::ColumnsClear),
+        (Verb::Column, [id, word, name, "marked"]) => column(heap, id, word, name, true),
+        (Verb::Columns, ["clear"]) => Ok(Command::ColumnsClear),
         (Verb::Regular, []) => Ok(Command::Regular),
         (Verb::Sheet, [digits]) => Ok(Command::Sheet(hex(heap, digits)?)),
-        (Verb::Select, [word]) if *word == "all" => Ok(Command::SelectAll),
+        (Verb::Select, ["all"]) => Ok(Command::SelectAll),
         (Verb::Select, [_, ..]) => select(heap, rest),
         _ => Err(ScriptFault::BadCommand),
     }
@@ -133,9 +129,9 @@ fn of_draft(heap: Global, verb: Verb, rest: &[&str]) -> Result<Command, ScriptFa
     match (verb, rest) {
         (Verb::Draft, []) => Ok(Command::Draft),
         (Verb::Unbound, []) => Ok(Command::Unbound),
-        (Verb::SpecId, [word]) => Ok(Command::SpecId(id(word)?)),
+        (Verb::SpecId, [word]) => Ok(Command::SpecId(word.parse()?)),
         (Verb::Add, [source, field, name, text]) => add(heap, source, field, name, text),
-        (Verb::Batch, [word]) => batch(word),
+        (Verb::Batch, [word]) => Ok(Command::Batch(word.parse()?)),
         (Verb::Close, []) => Ok(Command::Close),
         (Verb::RecordUnbound, []) => Ok(Command::RecordUnbound),
         (Verb::Read, [digits]) => Ok(Command::Read(hex(heap, digits)?)),
@@ -159,7 +155,7 @@ fn of_draft(heap: Global, verb: Verb, rest: &[&str]) -> Result<Command, ScriptFa
 fn of_sort(heap: Global, verb: Verb, rest: &[&str]) -> Result<Command, ScriptFault> {
     match (verb, rest) {
         (Verb::SortNew, []) => Ok(Command::SortNew),
-        (Verb::SortId, [word]) => Ok(Command::SortId(long(word)?)),
+        (Verb::SortId, [word]) => Ok(Command::SortId(word.parse()?)),
         (Verb::Sort, [source, text, direction, nulls]) => {
             sort(heap, source, text, direction, nulls)
         }
@@ -176,10 +172,8 @@ fn column(
     name: &str,
     is_marked: bool,
 ) -> Result<Command, ScriptFault> {
-    let Some(field_type) = read_type(word) else {
-        return Err(ScriptFault::BadCommand);
-    };
-    let id = id(number)?;
+    let field_type = read_type(word).ok_or(ScriptFault::BadCommand)?;
+    let id = number.parse()?;
     let name = bytes(heap, name)?;
     Ok(Command::Column(ColumnLine {
         id,
@@ -192,16 +186,14 @@ fn column(
 fn select(heap: Global, words: &[&str]) -> Result<Command, ScriptFault> {
     let mut ids = Vec::new(heap);
     for word in words {
-        ids.push(id(word)?)?;
+        ids.push(word.parse()?)?;
     }
     Ok(Command::Select(ids))
 }
 
 fn result_type(heap: Global, text: &str, word: &str) -> Result<Command, ScriptFault> {
-    match read_type(word) {
-        Some(input) => Ok(Command::ResultType(bytes(heap, text)?, input)),
-        None => Err(ScriptFault::BadCommand),
-    }
+    let input = read_type(word).ok_or(ScriptFault::BadCommand)?;
+    Ok(Command::ResultType(bytes(heap, text)?, input))
 }
 
 fn add(
@@ -211,7 +203,7 @@ fn add(
     name: &str,
     text: &str,
 ) -> Result<Command, ScriptFault> {
-    let source_id = id(source)?;
+    let source_id = source.parse()?;
     let field_id = maybe_id(field)?;
     let name = bytes(heap, name)?;
     let text = bytes(heap, text)?;
@@ -223,13 +215,6 @@ fn add(
     }))
 }
 
-fn batch(word: &str) -> Result<Command, ScriptFault> {
-    match word.parse::<usize>() {
-        Ok(count) => Ok(Command::Batch(count)),
-        Err(_) => Err(ScriptFault::BadCommand),
-    }
-}
-
 fn sort(
     heap: Global,
     source: &str,
@@ -237,10 +222,9 @@ fn sort(
     direction: &str,
     nulls: &str,
 ) -> Result<Command, ScriptFault> {
-    let (Some(direction), Some(null_order)) = (read_direction(direction), read_nulls(nulls)) else {
-        return Err(ScriptFault::BadCommand);
-    };
-    let source_id = id(source)?;
+    let direction = read_direction(direction)?;
+    let null_order = read_nulls(nulls)?;
+    let source_id = source.parse()?;
     let text = bytes(heap, text)?;
     Ok(Command::Sort(SortLine {
         source_id,
@@ -250,24 +234,18 @@ fn sort(
     }))
 }
 
-fn read_direction(word: &str) -> Option<SortDirection> {
-    if word == "asc" {
-        return Some(SortDirection::Ascending);
-    }
-    if word == "desc" {
-        Some(SortDirection::Descending)
-    } else {
-        None
+fn read_direction(word: &str) -> Result<SortDirection, ScriptFault> {
+    match word {
+        "asc" => Ok(SortDirection::Ascending),
+        "desc" => Ok(SortDirection::Descending),
+        _ => Err(ScriptFault::BadCommand),
     }
 }
 
-fn read_nulls(word: &str) -> Option<NullOrder> {
-    if word == "first" {
-        return Some(NullOrder::First);
-    }
-    if word == "last" {
-        Some(NullOrder::Last)
-    } else {
-        None
+fn read_nulls(word: &str) -> Result<NullOrder, ScriptFault> {
+    match word {
+        "first" => Ok(NullOrder::First),
+        "last" => Ok(NullOrder::Last),
+        _ => Err(ScriptFault::BadCommand),
     }
 }

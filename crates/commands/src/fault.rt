@@ -1,9 +1,10 @@
 // Why a line has no answer of its own.
 ghost use Rattle.std.specs.Prelude.{◌≡◌};
-ghost use Rattle.commands.specs.declared.fault.ScriptFault.TheVariants.{Memory};
+ghost use Rattle.commands.specs.declared.fault.ScriptFault.TheVariants.{Memory, BadCommand};
 
 use std::alloc::{AllocError, AllocFailed};
 use std::fmt;
+use std::num::ParseIntError;
 
 #[derive(Clone, Copy)]
 pub enum ScriptFault {
@@ -25,6 +26,15 @@ impl<T: Drop> From<AllocFailed<T>> for ScriptFault {
 
     fn from(_e: AllocFailed<T>) -> ScriptFault {
         ScriptFault::Memory
+    }
+}
+
+impl From<ParseIntError> for ScriptFault {
+    ghost from_gives = { λ _ r. r ≡ BadCommand };
+
+    // a word that is no number where one must stand
+    fn from(_e: ParseIntError) -> ScriptFault {
+        ScriptFault::BadCommand
     }
 }
 

@@ -21,13 +21,7 @@ const PLAIN: [PrimitiveType; 14] = [
 
 // A type by its word, with its parameters: int, decimal(9,2), fixed[16], list, list@4.
 pub fn read_type(word: &str) -> Option<Type> {
-    if let Some(nested) = read_nested(word) {
-        return Some(nested);
-    }
-    match read_primitive(word) {
-        Some(primitive) => Some(Type::Primitive(primitive)),
-        None => None,
-    }
+    read_nested(word).or_else(|| read_primitive(word).map(Type::Primitive))
 }
 
 fn read_primitive(word: &str) -> Option<PrimitiveType> {
@@ -41,45 +35,36 @@ fn read_primitive(word: &str) -> Option<PrimitiveType> {
 }
 
 fn read_plain(word: &str) -> Option<PrimitiveType> {
-    let plain: &[PrimitiveType] = &PLAIN;
-    for primitive in plain {
-        if primitive.word() == word {
-            return Some(*primitive);
-        }
-    }
-    None
+    PLAIN
+        .iter()
+        .find(|primitive| primitive.word() == word)
+        .copied()
 }
 
 // What follows `decimal(`: a precision, a comma, a scale and a bracket.
 fn read_decimal(rest: &str) -> Option<PrimitiveType> {
     let inside = rest.strip_suffix(')')?;
     let (precision, scale) = inside.split_once(',')?;
-    let precision = precision.parse::<u32>().ok()?;
-    let scale = scale.parse::<u32>().ok()?;
+    let precision = precision.parse().ok()?;
+    let scale = scale.parse().ok()?;
     Some(PrimitiveType::Decimal { precision, scale })
 }
 
 fn read_fixed(rest: &str) -> Option<PrimitiveType> {
     let inside = rest.strip_suffix(']')?;
-    let length = inside.parse::<u64>().ok()?;
-    Some(PrimitiveType::Fixed(length))
+    inside.parse().ok().map(PrimitiveType::Fixed)
 }
 
 // A nested kind, with its place after an @; without one the place is 0.
 fn read_nested(word: &str) -> Option<Type> {
     let (kind, place) = match word.split_once('@') {
-        Some((kind, place)) => (kind, place.parse::<u32>().ok()?),
+        Some((kind, place)) => (kind, place.parse().ok()?),
         None => (word, 0),
     };
-    if kind == "struct" {
-        return Some(Type::Struct(place));
-    }
-    if kind == "list" {
-        return Some(Type::List(place));
-    }
-    if kind == "map" {
-        Some(Type::Map(place))
-    } else {
-        None
+    match kind {
+        "struct" => Some(Type::Struct(place)),
+        "list" => Some(Type::List(place)),
+        "map" => Some(Type::Map(place)),
+        _ => None,
     }
 }

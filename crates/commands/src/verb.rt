@@ -135,12 +135,6 @@ impl Verb {
     pub fn read(word: &str) -> Option<Verb>
         ensures { MatchOption result (NoVerb word.now) (λ verb. word_of verb ≡ word.now) }
     {
-        let verbs: &[Verb] = &VERBS;
-        for verb in verbs {
-            if verb.word() == word {
-                return Some(*verb);
-            }
-        }
-        None
+        VERBS.iter().find(|verb| verb.word() == word).copied()
     }
 }

@@ -15,31 +15,17 @@ pub fn bytes(heap: Global, word: &str) -> Result<Vec<u8>, ScriptFault> {
 
 // Hexadecimal digits, or `-` for no bytes.
 pub fn hex(heap: Global, word: &str) -> Result<Vec<u8>, ScriptFault> {
-    if word == "-" {
-        return Ok(Vec::new(heap));
-    }
-    pairs(heap, word.as_bytes())
-}
-
-pub fn id(word: &str) -> Result<i32, ScriptFault> {
-    match word.parse::<i32>() {
-        Ok(id) => Ok(id),
-        Err(_) => Err(ScriptFault::BadCommand),
+    match word {
+        "-" => Ok(Vec::new(heap)),
+        digits => pairs(heap, digits.as_bytes()),
     }
 }
 
 // An id, or `-` for none.
 pub fn maybe_id(word: &str) -> Result<Option<i32>, ScriptFault> {
-    if word == "-" {
-        return Ok(None);
-    }
-    Ok(Some(id(word)?))
-}
-
-pub fn long(word: &str) -> Result<i64, ScriptFault> {
-    match word.parse::<i64>() {
-        Ok(id) => Ok(id),
-        Err(_) => Err(ScriptFault::BadCommand),
+    match word {
+        "-" => Ok(None),
+        id => Ok(Some(id.parse()?)),
     }
 }
 
@@ -47,24 +33,21 @@ pub fn long(word: &str) -> Result<i64, ScriptFault> {
 fn pairs(heap: Global, digits: &[u8]) -> Result<Vec<u8>, ScriptFault> {
     let mut out = Vec::new(heap);
     for pair in digits.chunks(2) {
-        let [high, low] = pair else {
-            return Err(ScriptFault::BadCommand);
-        };
-        let (Some(high), Some(low)) = (hex_digit(*high), hex_digit(*low)) else {
-            return Err(ScriptFault::BadCommand);
-        };
-        out.push((high & 15) * 16 + (low & 15))?;
+        out.push(byte(pair).ok_or(ScriptFault::BadCommand)?)?;
     }
     Ok(out)
+}
+
+// The byte that two hexadecimal digits write.
+fn byte(pair: &[u8]) -> Option<u8> {
+    match pair {
+        [high, low] => Some(hex_digit(*high)? * 16 + hex_digit(*low)?),
+        _ => None,
+    }
 }
 
 fn hex_digit(b: u8) -> Option<u8>
     ensures { result ≡ hex_digit b }
 {
-    match b {
-        b'0'..=b'9' => Some(b - b'0'),
-        b'a'..=b'f' => Some(b - b'a' + 10),
-        b'A'..=b'F' => Some(b - b'A' + 10),
-        _ => None,
-    }
+    char::from(b).to_digit(16).map(|digit| digit as u8)
 }
