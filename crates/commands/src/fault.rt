@@ -1,7 +1,8 @@
 // Why a line has no answer of its own.
 ghost use Rattle.std.specs.Prelude.{◌≡◌};
-ghost use Rattle.commands.specs.declared.fault.ScriptFault.TheVariants.{Memory, BadCommand};
+ghost use Rattle.commands.specs.declared.fault.ScriptFault.TheVariants.{Memory, BadCommand, Refused};
 
+use faults::refusal::Refusal;
 use std::alloc::{AllocError, AllocFailed};
 use std::fmt;
 use std::num::ParseIntError;
@@ -11,6 +12,8 @@ pub enum ScriptFault {
     Memory,
     // the line is no command of the language
     BadCommand,
+    // what the line asks for is refused
+    Refused(Refusal),
 }
 
 impl From<AllocError> for ScriptFault {
@@ -26,6 +29,14 @@ impl<T: Drop> From<AllocFailed<T>> for ScriptFault {
 
     fn from(_e: AllocFailed<T>) -> ScriptFault {
         ScriptFault::Memory
+    }
+}
+
+impl From<Refusal> for ScriptFault {
+    ghost from_gives = { λ refusal r. r ≡ Refused refusal };
+
+    fn from(refusal: Refusal) -> ScriptFault {
+        ScriptFault::Refused(refusal)
     }
 }
 

@@ -54,10 +54,11 @@ impl UnboundPartitionSpecBuilder {
         self.spec.fields.add_all(&Unbound, fields, area)
     }
 
-    // Fills the caller's spec. What a draft holds is always a spec.
-    pub fn build(self, spec: &mut UnboundPartitionSpec)
-        ensures { paper_spec spec.new ≡ paper_draft self }
+    // What a draft holds is always a spec.
+    pub fn build(self) -> UnboundPartitionSpec
+        ensures { paper_spec result ≡ paper_draft self }
     {
-        *spec = self.spec;
+        let UnboundPartitionSpecBuilder { spec } = self;
+        spec
     }
 }

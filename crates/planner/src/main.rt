@@ -2,12 +2,13 @@
 #![tactic(auto)]
 
 use anyhow::anyhow;
-use script::normal::normalise;
+use replies::normal::normalise;
 use script::play::play;
 use std::env;
 use std::fs::File;
 use std::io::BufWriter;
 use std::process::ExitCode;
+use transforms::transform::Transform;
 
 const HELP: &str = "planner: plays a plan script and prints one answer for each command
 
@@ -79,8 +80,10 @@ fn open(rt: &HostRuntime, path: &str) -> anyhow::Result<File> {
 // A line for each text, and of several whether they are one transform.
 fn show_normal(rt: &HostRuntime, texts: &[&str]) -> anyhow::Result<()> {
     for text in texts {
-        let normal = normalise(text.as_bytes());
-        println!(rt; "{text}: {normal}")?;
+        match normalise(text.as_bytes()) {
+            Ok(normal) => println!(rt; "{text}: {normal}")?,
+            Err(refusal) => println!(rt; "{text}: {refusal}")?,
+        }
     }
     if texts.len() > 1 {
         rt.println(if are_one(texts) {
@@ -93,16 +96,12 @@ fn show_normal(rt: &HostRuntime, texts: &[&str]) -> anyhow::Result<()> {
 }
 
 fn are_one(texts: &[&str]) -> bool {
-    let Some(first) = texts.first() else {
+    let Some(meant) = texts.first().and_then(|text| meaning(text)) else {
         return false;
     };
-    let Some(meant) = normalise(first.as_bytes()).transform() else {
-        return false;
-    };
-    for text in texts {
-        if normalise(text.as_bytes()).transform() != Some(meant) {
-            return false;
-        }
-    }
-    true
+    texts.iter().all(|text| meaning(text) == Some(meant))
+}
+
+fn meaning(text: &str) -> Option<Transform> {
+    Some(normalise(text.as_bytes()).ok()?.transform())
 }

@@ -1,9 +1,9 @@
 // The columns that a script states, and the questions that are asked of them.
-use crate::answer::Answer;
 use commands::command::ColumnLine;
 use commands::fault::ScriptFault;
 use faults::refusal::Refusal;
 use names::name::NamePlace;
+use replies::answer::Answer;
 use schemas::schema::Schema;
 use schemas::selection::Selection;
 use schemas::table::{ColumnRecord, ColumnTable};
@@ -20,6 +20,7 @@ pub struct Columns {
 }
 
 // What is asked of whatever schema the script has.
+// kept: a closure cannot be generic over the schema that it is asked of, and a trait with one generic method can
 pub trait Question {
     fn ask<S: Schema>(&self, schema: &S) -> Result<Answer, ScriptFault>;
 }
@@ -76,10 +77,7 @@ impl Columns {
 
     // Selects the ids, up to the first that is refused.
     pub fn select(&mut self, heap: Global, ids: &[i32]) -> Result<Answer, ScriptFault> {
-        let mut all = match self.selected.take() {
-            Some(ids) => ids,
-            None => Vec::new(heap),
-        };
+        let mut all = self.selected.take().unwrap_or(Vec::new(heap));
         let result = extend(heap, &self.table(), &mut all, ids);
         self.selected = Some(all);
         result
@@ -106,7 +104,7 @@ impl Columns {
         match &self.selected {
             Some(ids) => {
                 let mut selection = Selection::new(heap, under)?;
-                for id in ids.iter() {
+                for id in ids {
                     let _ = selection.select(*id);
                 }
                 question.ask(&selection)
@@ -127,9 +125,7 @@ fn extend(
         let _ = selection.select(*id);
     }
     for id in ids {
-        if let Err(fault) = selection.select(*id) {
-            return Ok(Answer::Refused(Refusal::of(&fault)));
-        }
+        selection.select(*id).map_err(Refusal::from)?;
         all.push(*id)?;
     }
     Ok(Answer::Done)

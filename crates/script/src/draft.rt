@@ -1,5 +1,4 @@
-// The draft of a script, and a batch whose lines are still due.
-use crate::answer::Answer;
+// The unbound draft of a script, and a batch whose lines are still due.
 use crate::lines::unbound_line;
 use commands::command::FieldLine;
 use commands::fault::ScriptFault;
@@ -7,7 +6,9 @@ use faults::refusal::Refusal;
 use names::name::NamePlace;
 use partitions::batch::BatchField;
 use partitions::builder::UnboundPartitionSpecBuilder;
+use partitions::field::FieldView;
 use partitions::spec::UnboundPartitionSpec;
+use replies::answer::Answer;
 use std::alloc::Global;
 use texts::read::loose;
 
@@ -40,7 +41,10 @@ impl Batch {
         self.due = self.due.saturating_sub(1);
         let transform = match loose(line.text.as_slice()) {
             Ok(transform) => transform,
-            Err(fault) => return self.refuse(index, Refusal::of(&fault)),
+            Err(fault) => {
+                self.refuse(index, Refusal::from(fault));
+                return Ok(());
+            }
         };
         let start = self.names.len();
         let length = line.name.len();
@@ -55,49 +59,44 @@ impl Batch {
     }
 
     // The first refused text decides; what comes after it is passed over.
-    fn refuse(&mut self, index: usize, refusal: Refusal) -> Result<(), ScriptFault> {
+    fn refuse(&mut self, index: usize, refusal: Refusal) {
         if self.refused.is_none() {
             self.refused = Some(Refusal {
                 index: Some(index),
                 ..refusal
             });
         }
-        Ok(())
     }
 
-    pub fn add_to(&self, draft: &mut UnboundPartitionSpecBuilder) -> Answer {
+    pub fn add_to(&self, draft: &mut UnboundPartitionSpecBuilder) -> Result<Answer, Refusal> {
         if let Some(refusal) = self.refused {
-            return Answer::Refused(refusal);
+            return Err(refusal);
         }
-        match draft.add_partition_fields(self.fields.as_slice(), self.names.as_slice()) {
-            Ok(()) => Answer::Done,
-            Err(fault) => Answer::Refused(Refusal::of(&fault)),
-        }
+        draft.add_partition_fields(self.fields.as_slice(), self.names.as_slice())?;
+        Ok(Answer::Done)
     }
 }
 
-pub fn add_field(draft: &mut UnboundPartitionSpecBuilder, line: &FieldLine) -> Answer {
-    let transform = match loose(line.text.as_slice()) {
-        Ok(transform) => transform,
-        Err(fault) => return Answer::Refused(Refusal::of(&fault)),
-    };
-    match draft.add_partition_field(
-        line.source_id,
-        line.field_id,
-        line.name.as_slice(),
+pub fn add_field(
+    draft: &mut UnboundPartitionSpecBuilder,
+    line: &FieldLine,
+) -> Result<Answer, Refusal> {
+    let transform = loose(line.text.as_slice())?;
+    draft.add_partition_field(&FieldView {
+        source_id: line.source_id,
+        field_id: line.field_id,
+        name: line.name.as_slice(),
         transform,
-    ) {
-        Ok(()) => Answer::Done,
-        Err(fault) => Answer::Refused(Refusal::of(&fault)),
-    }
+    })?;
+    Ok(Answer::Done)
 }
 
-// Builds the draft into the spec.
+// The spec that the draft builds, and its line.
 pub fn close(
     heap: Global,
     draft: UnboundPartitionSpecBuilder,
-    spec: &mut UnboundPartitionSpec,
-) -> Result<Answer, ScriptFault> {
-    draft.build(spec);
-    Ok(Answer::Line(unbound_line(heap, spec)?))
+) -> Result<(UnboundPartitionSpec, Answer), ScriptFault> {
+    let spec = draft.build();
+    let line = unbound_line(heap, &spec)?;
+    Ok((spec, Answer::Line(line)))
 }

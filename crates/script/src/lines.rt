@@ -1,28 +1,45 @@
 // Specs, orders and records as lines.
-use commands::fault::ScriptFault;
 use partitions::field::UnboundPartitionField;
 use partitions::spec::UnboundPartitionSpec;
 use sorts::sort::{NullOrder, SortDirection, SortField, SortOrder};
-use std::alloc::Global;
+use std::alloc::{AllocError, Global};
 use std::fmt::Write;
 
 // `unbound ID: SOURCE ID NAME TRANSFORM; ..`
-pub fn unbound_line(heap: Global, spec: &UnboundPartitionSpec) -> Result<String, ScriptFault> {
+pub fn unbound_line(heap: Global, spec: &UnboundPartitionSpec) -> Result<String, AllocError> {
     let mut line = String::from_str(heap, "unbound ")?;
     put_maybe(&mut line, spec.spec_id())?;
-    let mut mark = ":";
-    for field in spec.fields() {
-        line.push_str(mark)?;
-        put_field(&mut line, field)?;
-        mark = ";";
-    }
-    if spec.fields().is_empty() {
-        line.push_str(":")?;
-    }
+    put_all(&mut line, spec.fields(), put_field)?;
     Ok(line)
 }
 
-fn put_field(line: &mut String, field: &UnboundPartitionField) -> Result<(), ScriptFault> {
+// `order ID: SOURCE TRANSFORM asc first; ..`
+pub fn order_line(heap: Global, order: &SortOrder) -> Result<String, AllocError> {
+    let order_id = order.order_id();
+    let mut line = format!(in heap; "order {order_id}")?;
+    put_all(&mut line, order.fields(), put_sort_field)?;
+    Ok(line)
+}
+
+// A colon, and the items with semicolons between them.
+fn put_all<T, F: Fn(&mut String, &T) -> Result<(), AllocError>>(
+    line: &mut String,
+    items: &[T],
+    put: F,
+) -> Result<(), AllocError>
+    requires { F.IsAlwaysCallable put }
+{
+    line.push_str(":")?;
+    for (place, item) in items.iter().enumerate() {
+        if place > 0 {
+            line.push_str(";")?;
+        }
+        put(line, item)?;
+    }
+    Ok(())
+}
+
+fn put_field(line: &mut String, field: &UnboundPartitionField) -> Result<(), AllocError> {
     let source_id = field.source_id;
     write!(line, " {source_id} ")?;
     put_maybe(line, field.field_id)?;
@@ -33,23 +50,7 @@ fn put_field(line: &mut String, field: &UnboundPartitionField) -> Result<(), Scr
     Ok(())
 }
 
-// `order ID: SOURCE TRANSFORM asc first; ..`
-pub fn order_line(heap: Global, order: &SortOrder) -> Result<String, ScriptFault> {
-    let order_id = order.order_id();
-    let mut line = format!(in heap; "order {order_id}")?;
-    let mut mark = ":";
-    for field in order.fields() {
-        line.push_str(mark)?;
-        put_sort_field(&mut line, field)?;
-        mark = ";";
-    }
-    if order.fields().is_empty() {
-        line.push_str(":")?;
-    }
-    Ok(line)
-}
-
-fn put_sort_field(line: &mut String, field: &SortField) -> Result<(), ScriptFault> {
+fn put_sort_field(line: &mut String, field: &SortField) -> Result<(), AllocError> {
     let source_id = field.source_id;
     let transform = field.transform;
     let direction = match field.direction {
@@ -65,7 +66,7 @@ fn put_sort_field(line: &mut String, field: &SortField) -> Result<(), ScriptFaul
 }
 
 // A number, or `-` for none.
-pub fn put_maybe(line: &mut String, id: Option<i32>) -> Result<(), ScriptFault> {
+pub fn put_maybe(line: &mut String, id: Option<i32>) -> Result<(), AllocError> {
     match id {
         Some(id) => write!(line, "{id}")?,
         None => line.push_str("-")?,
@@ -74,7 +75,7 @@ pub fn put_maybe(line: &mut String, id: Option<i32>) -> Result<(), ScriptFault> 
 }
 
 // A name that is a bare word as it is, and any other as `x:` and hexadecimal digits.
-pub fn put_name(line: &mut String, name: &[u8]) -> Result<(), ScriptFault> {
+pub fn put_name(line: &mut String, name: &[u8]) -> Result<(), AllocError> {
     if !is_bare(name) {
         line.push_str("x:")?;
         return put_hex(line, name);
@@ -86,15 +87,13 @@ pub fn put_name(line: &mut String, name: &[u8]) -> Result<(), ScriptFault> {
 }
 
 fn is_bare(name: &[u8]) -> bool {
-    for b in name {
-        if !matches!(*b, b'A'..=b'Z' | b'a'..=b'z' | b'0'..=b'9' | b'_' | b'.' | b'-') {
-            return false;
-        }
-    }
     !name.is_empty()
+        && name.iter().all(
+            |b| matches!(*b, b'A'..=b'Z' | b'a'..=b'z' | b'0'..=b'9' | b'_' | b'.' | b'-'),
+        )
 }
 
-pub fn put_hex(line: &mut String, bytes: &[u8]) -> Result<(), ScriptFault> {
+pub fn put_hex(line: &mut String, bytes: &[u8]) -> Result<(), AllocError> {
     for b in bytes {
         let b = *b;
         write!(line, "{b:02x}")?;

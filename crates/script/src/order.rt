@@ -1,10 +1,10 @@
 // The sort draft of a script.
-use crate::answer::Answer;
 use crate::columns::{Columns, Question};
 use crate::lines::order_line;
 use commands::command::SortLine;
 use commands::fault::ScriptFault;
 use faults::refusal::Refusal;
+use replies::answer::Answer;
 use schemas::schema::Schema;
 use sorts::sort::{SortField, SortOrder, SortOrderBuilder};
 use std::alloc::Global;
@@ -31,29 +31,21 @@ impl Sorting {
         self.draft.with_order_id(order_id);
     }
 
-    pub fn add(&mut self, line: &SortLine) -> Answer {
-        let transform = match loose(line.text.as_slice()) {
-            Ok(transform) => transform,
-            Err(fault) => return Answer::Refused(Refusal::of(&fault)),
-        };
-        let field = SortField {
+    pub fn add(&mut self, line: &SortLine) -> Result<Answer, Refusal> {
+        let transform = loose(line.text.as_slice())?;
+        self.draft.with_sort_field(SortField {
             source_id: line.source_id,
             transform,
             direction: line.direction,
             null_order: line.null_order,
-        };
-        match self.draft.with_sort_field(field) {
-            Ok(()) => Answer::Done,
-            Err(fault) => Answer::Refused(Refusal::of(&fault)),
-        }
+        })?;
+        Ok(Answer::Done)
     }
 
     pub fn build_unbound(&self, heap: Global) -> Result<Answer, ScriptFault> {
         let mut order = SortOrder::new(heap)?;
-        match self.draft.build_unbound(&mut order) {
-            Ok(()) => Ok(Answer::Line(order_line(heap, &order)?)),
-            Err(fault) => Ok(Answer::Refused(Refusal::of(&fault))),
-        }
+        self.draft.build_unbound(&mut order).map_err(Refusal::from)?;
+        Ok(Answer::Line(order_line(heap, &order)?))
     }
 
     pub fn build(&self, heap: Global, columns: &Columns) -> Result<Answer, ScriptFault> {
@@ -68,9 +60,7 @@ impl Sorting {
 impl Question for Build<'_> {
     fn ask<S: Schema>(&self, schema: &S) -> Result<Answer, ScriptFault> {
         let mut order = SortOrder::new(self.heap)?;
-        match self.draft.build(schema, &mut order) {
-            Ok(()) => Ok(Answer::Line(order_line(self.heap, &order)?)),
-            Err(fault) => Ok(Answer::Refused(Refusal::of(&fault))),
-        }
+        self.draft.build(schema, &mut order).map_err(Refusal::from)?;
+        Ok(Answer::Line(order_line(self.heap, &order)?))
     }
 }

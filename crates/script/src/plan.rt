@@ -1,35 +1,33 @@
 // What a script has made so far, and what its commands answer.
-use crate::answer::Answer;
 use crate::columns::Columns;
 use crate::draft::{Batch, add_field, close};
 use crate::order::Sorting;
-use crate::text::{
-    alike_answer, name_answer, preserves_answer, result_answer, satisfies_answer, strict_answer,
-    transform_answer,
-};
 use commands::command::Command;
 use commands::fault::ScriptFault;
 use partitions::builder::UnboundPartitionSpecBuilder;
 use partitions::spec::UnboundPartitionSpec;
+use replies::answer::Answer;
+use replies::text::{
+    alike_answer, name_answer, preserves_answer, result_answer, satisfies_answer, strict_answer,
+    transform_answer,
+};
 use std::alloc::Global;
 
 // Of the two sorts of drafts the planner has only the unbound one yet.
-#[derive(Clone, Copy)]
-enum Sort {
+#[derive(Drop)]
+enum Draft {
     Bound,
-    Unbound,
+    Unbound(UnboundPartitionSpecBuilder),
 }
 
 #[derive(Drop)]
 pub struct Plan {
     heap: Global,
     columns: Columns,
-    sort: Sort,
-    draft: UnboundPartitionSpecBuilder,
+    draft: Draft,
     batch: Option<Batch>,
     // the last unbound spec, if there was one
-    spec: UnboundPartitionSpec,
-    has_spec: bool,
+    spec: Option<UnboundPartitionSpec>,
     sorting: Sorting,
 }
 
@@ -38,11 +36,9 @@ impl Plan {
         Ok(Plan {
             heap,
             columns: Columns::new(heap),
-            sort: Sort::Bound,
-            draft: UnboundPartitionSpecBuilder::new(heap)?,
+            draft: Draft::Bound,
             batch: None,
-            spec: UnboundPartitionSpec::new(heap)?,
-            has_spec: false,
+            spec: None,
             sorting: Sorting::new(heap)?,
         })
     }
@@ -86,29 +82,29 @@ impl Plan {
             self.batch = Some(batch);
             return Ok(None);
         }
-        match self.sort {
-            Sort::Unbound => Ok(Some(batch.add_to(&mut self.draft))),
-            Sort::Bound => Ok(Some(Answer::NotYet)),
+        match &mut self.draft {
+            Draft::Unbound(draft) => Ok(Some(batch.add_to(draft)?)),
+            Draft::Bound => Ok(Some(Answer::NotYet)),
         }
     }
 
     fn run(&mut self, command: &Command) -> Result<Answer, ScriptFault> {
         match command {
-            Command::Name(name) => Ok(name_answer(name.as_slice())),
-            Command::Transform(text) => Ok(transform_answer(text.as_slice())),
-            Command::Strict(text) => Ok(strict_answer(text.as_slice())),
-            Command::ResultType(text, input) => Ok(result_answer(text.as_slice(), *input)),
-            Command::Preserves(text) => Ok(preserves_answer(text.as_slice())),
+            Command::Name(name) => Ok(name_answer(name.as_slice())?),
+            Command::Transform(text) => Ok(transform_answer(text.as_slice())?),
+            Command::Strict(text) => Ok(strict_answer(text.as_slice())?),
+            Command::ResultType(text, input) => Ok(result_answer(text.as_slice(), *input)?),
+            Command::Preserves(text) => Ok(preserves_answer(text.as_slice())?),
             Command::Satisfies(text, other) => {
-                Ok(satisfies_answer(text.as_slice(), other.as_slice()))
+                Ok(satisfies_answer(text.as_slice(), other.as_slice())?)
             }
-            Command::Alike(text, other) => Ok(alike_answer(text.as_slice(), other.as_slice())),
+            Command::Alike(text, other) => Ok(alike_answer(text.as_slice(), other.as_slice())?),
             Command::SortNew => self.new_sorting(),
             Command::SortId(order_id) => {
                 self.sorting.with_order_id(*order_id);
                 Ok(Answer::Done)
             }
-            Command::Sort(line) => Ok(self.sorting.add(line)),
+            Command::Sort(line) => Ok(self.sorting.add(line)?),
             Command::SortBuild => self.sorting.build(self.heap, &self.columns),
             Command::SortBuildUnbound => self.sorting.build_unbound(self.heap),
             Command::RecordUnbound | Command::Read(_) | Command::Items(_) | Command::Later => {
@@ -135,25 +131,24 @@ impl Plan {
     }
 
     fn run_on_draft(&mut self, command: &Command) -> Result<Answer, ScriptFault> {
-        match (command, self.sort) {
+        match (command, &mut self.draft) {
             (Command::Unbound, _) => self.new_unbound(),
             (Command::Draft, _) => {
-                self.sort = Sort::Bound;
+                self.draft = Draft::Bound;
                 Ok(Answer::NotYet)
             }
-            (Command::SpecId(spec_id), Sort::Unbound) => {
-                self.draft.with_spec_id(*spec_id);
+            (Command::SpecId(spec_id), Draft::Unbound(draft)) => {
+                draft.with_spec_id(*spec_id);
                 Ok(Answer::Done)
             }
-            (Command::Add(line), Sort::Unbound) => Ok(add_field(&mut self.draft, line)),
-            (Command::Close, Sort::Unbound) => self.close(),
+            (Command::Add(line), Draft::Unbound(draft)) => Ok(add_field(draft, line)?),
+            (Command::Close, _) => self.close(),
             _ => Ok(Answer::NotYet),
         }
     }
 
     fn new_unbound(&mut self) -> Result<Answer, ScriptFault> {
-        self.draft = UnboundPartitionSpecBuilder::new(self.heap)?;
-        self.sort = Sort::Unbound;
+        self.draft = Draft::Unbound(UnboundPartitionSpecBuilder::new(self.heap)?);
         Ok(Answer::Done)
     }
 
@@ -164,9 +159,12 @@ impl Plan {
 
     // Builds the draft into the last spec; a new draft begins.
     fn close(&mut self) -> Result<Answer, ScriptFault> {
+        let Draft::Unbound(draft) = &mut self.draft else {
+            return Ok(Answer::NotYet);
+        };
         let fresh = UnboundPartitionSpecBuilder::new(self.heap)?;
-        let draft = std::mem::replace(&mut self.draft, fresh);
-        self.has_spec = true;
-        close(self.heap, draft, &mut self.spec)
+        let (spec, answer) = close(self.heap, std::mem::replace(draft, fresh))?;
+        self.spec = Some(spec);
+        Ok(answer)
     }
 }

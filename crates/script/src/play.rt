@@ -15,13 +15,12 @@ pub fn play<I: Read + Drop, O: Write, N: Write>(
     let Ok(mut plan) = Plan::new(heap) else {
         return Err(anyhow!("out of memory"));
     };
-    let mut number: u64 = 0;
-    for line in BufReader::new(heap, input)?.split(heap, b'\n') {
-        number = number.saturating_add(1);
+    for (before, line) in BufReader::new(heap, input)?.split(heap, b'\n').enumerate() {
         let bytes = line?;
         // a line that is no text is no command
         let text = std::str::from_utf8(bytes.as_slice()).unwrap_or("?");
         if !answer_line(&mut plan, text, out)? {
+            let number = before.saturating_add(1);
             writeln!(notes, "line {number}: no command of the language")?;
         }
     }
@@ -35,6 +34,10 @@ fn answer_line<O: Write>(plan: &mut Plan, line: &str, out: &mut O) -> anyhow::Re
         Ok(None) => Ok(true),
         Ok(Some(answer)) => {
             writeln!(out, "{answer}")?;
+            Ok(true)
+        }
+        Err(ScriptFault::Refused(refusal)) => {
+            writeln!(out, "{refusal}")?;
             Ok(true)
         }
         Err(ScriptFault::BadCommand) => {
