@@ -1,12 +1,13 @@
 -- What is well formed by Unicode's table is the UTF-8 of `str`, and the other way round. Assumes nothing.
-use Rattle.std.proofs.Common.{◌≡◌, ℕ, zero, suc, ◌+◌, ◌-◌, ◌*◌, ◌<◌, ◌≤◌, true, ◌⊎◌, List, [], ◌∷◌, ◌++◌, length, get_or, IsUtf8, sym, refl, ap, subst, inl, inr, le_of_suc-le-suc, not-suc-le-zero, arith, lit<, lit≤}
+use Rattle.std.proofs.Common.{◌≡◌, ℕ, zero, suc, ◌+◌, ◌-◌, ◌*◌, ◌<◌, ◌≤◌, true, ◌⊎◌, List, [], ◌∷◌, ◌++◌, length, get_or, take, IsUtf8, sym, refl, ap, subst, inl, inr, le_of_suc-le-suc, not-suc-le-zero, arith, lit<, lit≤}
+use Rattle.std.specs.Str.{IsValidUpTo}
 use lib.Utf8.{scalar, scalars, encode, encodes, scalar_cases}
 use Rattle.std.proofs.lemmas.List.{take_all}
 use Rattle.std.proofs.lemmas.Bool.{cases_lt, and_parts}
 use Rattle.std.proofs.lemmas.Str.{IsUtf8-append, IsUtf8-nil}
 use Rattle.std.proofs.str.Laws.{one, two, three, four}
 use Rattle.std.proofs.str.Valid.{of_one, of_two, of_three, of_four}
-use Rattle.names.specs.WellFormed.{Row, rows, tail, Stands, InSome, Sequence, Each, joined, WellFormed, WellFormedIsUtf8}
+use Rattle.names.specs.WellFormed.{Row, rows, tail, Stands, InSome, Sequence, Each, joined, WellFormed, Front, WellFormedIsUtf8}
 
 -- bytes that stand in a row are as many as its ranges
 as_many : (rs : Row) (s : List ℕ) → Stands rs s → length s ≡ length rs
@@ -117,3 +118,7 @@ from_utf8 bs u = subst WellFormed u.1.1 (well_formed_encodes u.0 u.1.0)
 
 pub one_notion : WellFormedIsUtf8
 one_notion bs = (to_utf8 bs, from_utf8 bs)
+
+-- the longest front that is well formed, from the library's
+pub front : (bs : List ℕ) (n : ℕ) → IsValidUpTo bs n → Front bs n
+front bs n v = record { short = v.short; good = from_utf8 (take n bs) v.front; longest = λ m a _ w. v.longest m a (to_utf8 (take m bs) w) }

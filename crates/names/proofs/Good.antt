@@ -1,24 +1,22 @@
 -- Good names: decided by the machine, and the same as names that keep every rule. Assumes nothing.
-use Rattle.std.proofs.Common.{◌≡◌, ℕ, zero, suc, ◌<◌, ◌≤◌, ◌⊎◌, List, [], ◌∷◌, length, take, Some, None, sym, refl, ap, ◌∙◌, subst, inl, inr, ⊎_elim, arith}
+use Rattle.std.proofs.Common.{◌≡◌, ℕ, zero, suc, ◌<◌, ◌≤◌, ◌⊎◌, List, [], length, take, Some, None, sym, refl, ap, ◌∙◌, subst, inl, inr, ⊎_elim, arith}
 use mathlib.Core.HLevel.{⊥_prop}
 use mathlib.Core.Logic.{∥∥₁_elim}
 use Rattle.std.proofs.lemmas.List.{take_all}
-use Rattle.std.proofs.lemmas.Bool.{cases_lt}
+use Rattle.std.specs.Str.{is_utf8}
+use Rattle.std.proofs.lemmas.Str.{IsUtf8-from_is_utf8, is_utf8-from_IsUtf8}
+use Rattle.std.proofs.lemmas.Bool.{cases_lt, cases_Bool, false≢true}
 use Rattle.faults.specs.Rules.{AllKept}
 use Rattle.faults.proofs.Firsts.{keeps as kept_rule, keeps_at}
 use Rattle.names.specs.WellFormed.{WellFormed, Front}
 use Rattle.names.specs.GoodName.{GoodName}
 use Rattle.names.specs.NameRules.{name_rules, GoodExactlyWhenKept}
-use Rattle.names.proofs.Runs.{Due, run, sound, complete}
-use Rattle.names.proofs.Chars.{to_utf8}
-
-ended : (o : Due) → (o ≡ Some []) ⊎ (o ≡ Some [] → ⊥)
-ended None = inr (λ e. (let z : ◌≡◌ {A = ℕ} 0 1 = cc in omega arith))
-ended (Some []) = inl refl
-ended (Some (r ∷ rs)) = inr (λ e. (let z : ◌≡◌ {A = ℕ} 0 1 = cc in omega arith))
+use Rattle.names.proofs.Chars.{to_utf8, from_utf8}
 
 formed : (bs : List ℕ) → WellFormed bs ⊎ (WellFormed bs → ⊥)
-formed bs = ⊎_elim (λ e. inl (sound bs e)) (λ n. inr (λ w. n (complete bs w))) (ended (run (Some []) bs))
+formed bs =
+    ⊎_elim (λ e. inl (from_utf8 bs (IsUtf8-from_is_utf8 bs e))) (λ n. inr (λ w. false≢true (sym n ∙ is_utf8-from_IsUtf8 bs (to_utf8 bs w))))
+    (cases_Bool (is_utf8 bs))
 
 -- a fact that is decided is not lost in truncation
 decided : {P Q : Type 0} → P ⊎ (P → ⊥) → (Q → P) → ∥ Q ∥₁ → P

@@ -1,4 +1,2 @@
-pub mod Runs
 pub mod Chars
-pub mod Walk
 pub mod Good
