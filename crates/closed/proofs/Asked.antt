@@ -1,9 +1,10 @@
 -- The questions on a closed spec, from its fields in the code to those on paper. Assumes nothing.
-use Rattle.std.proofs.Common.{◌≡◌, ℕ, ◌<◌, ◌≤◌, List, map, length, get_or, take, sym, ap, ◌∙◌, subst, arith}
+use Rattle.std.proofs.Common.{◌≡◌, ℕ, zero, suc, ◌<◌, Bool, true, false, List, [], ◌∷◌, refl, Decides, map, length, get_or, sym, ap, ◌∙◌, subst, arith}
 use mathlib.Core.List.{map-map}
-use Rattle.std.specs.List.{AllByRecursion}
-use Rattle.std.proofs.ByRecursion.{All-get_or, All-map}
-use Rattle.std.proofs.lemmas.List.{length-map, get_or-map, take_all}
+use Rattle.std.specs.Bool.{MatchBool}
+use Rattle.std.specs.List.{AllByRecursion, AllWithin, HoldsAt}
+use Rattle.std.proofs.lemmas.Bool.{false≢true}
+use Rattle.std.proofs.lemmas.List.{get_or-map}
 use Rattle.transforms.specs.declared.transform.Transform.TheVariants.{Void}
 use Rattle.partitions.specs.Fields.{PaperField}
 use Rattle.closed.specs.Bare.{Bare, bare, bares}
@@ -15,15 +16,23 @@ use Rattle.closed.specs.declared.field.PartitionField.{PartitionField}
 pub opened_at : (fs : List PartitionField) (i : ℕ) (f : PartitionField) → i < length fs → f ≡ get_or fs i f → opened f ≡ get_or (openeds fs) i (opened f)
 opened_at fs i f lt read = ap opened read ∙ sym (get_or-map opened fs i f (opened f) lt)
 
-module _ (fs : List PartitionField) (gs : List PaperField) (is : openeds fs ≡ gs) where
-  pub void_not : (i : ℕ) (f : PartitionField) → i < length fs → f ≡ get_or fs i f → (f.transform ≡ Void → ⊥) → Unpartitioned gs → ⊥
-  void_not i f lt read n all =
-      let size = length-map fs opened in
-      let here = All-get_or (λ p. p.transform ≡ Void) (openeds fs) i (opened f) (omega arith) (subst Unpartitioned (sym is) all) in
-      n (ap (λ (p : PaperField). p.transform) (opened_at fs i f lt read) ∙ here)
+abbrev pub IsVoid : PartitionField → Type 0
+IsVoid f = f.transform ≡ Void
 
-  pub void_all : (i : ℕ) → length fs ≤ i → AllByRecursion (λ f. f.transform ≡ Void) (take i fs) → Unpartitioned gs
-  void_all i le all = subst Unpartitioned is (All-map (λ p. p.transform ≡ Void) opened fs (subst (λ (l : List PartitionField). AllByRecursion (λ f. f.transform ≡ Void) l) (take_all i fs le) all))
+all_void : (fs : List PartitionField) → AllWithin IsVoid fs 0 (length fs) → AllByRecursion (λ (p : PaperField). p.transform ≡ Void) (openeds fs)
+all_void [] h = tt
+all_void (f ∷ fs) h = (h 0 f (omega arith) (omega arith), all_void fs (λ k d low high. h (suc k) d (omega arith) (omega arith)))
+
+one_not : (fs : List PartitionField) (k : ℕ) → k < length fs → HoldsAt (λ f. IsVoid f → ⊥) fs k → AllByRecursion (λ (p : PaperField). p.transform ≡ Void) (openeds fs) → ⊥
+one_not [] k lt h all = absurd (omega arith)
+one_not (f ∷ fs) zero lt h all = h f all.0
+one_not (f ∷ fs) (suc k) lt h all = one_not fs k (omega arith) h all.1
+
+-- by a test of each field
+pub voids_decided : (fs : List PartitionField) (gs : List PaperField) (r : Bool) → openeds fs ≡ gs
+    → MatchBool r (AllWithin IsVoid fs 0 (length fs)) ((k : ℕ) × (k < length fs) × HoldsAt (λ f. IsVoid f → ⊥) fs k) → Decides r (Unpartitioned gs)
+voids_decided fs gs true is h = (λ _. subst Unpartitioned is (all_void fs h), λ _. refl)
+voids_decided fs gs false is (k, lt, h) = (λ t. absurd (false≢true t), λ all. absurd (one_not fs k lt h (subst Unpartitioned (sym is) all)))
 
 abbrev pub rest : PartitionField → Bare
 rest f = bare (opened f)

@@ -1,7 +1,7 @@
 -- Closing: the fields that are filled in one by one, and the laws at each way that it can end. Assumes nothing.
-use Rattle.std.proofs.Common.{◌≡◌, ℕ, ◌+◌, ◌<◌, ◌≤◌, List, [], ◌∷◌, ◌++◌, map, length, get_or, take, ℤ, Some, Ok, Err, Option, sym, refl, ap, ◌∙◌, subst, arith}
+use Rattle.std.proofs.Common.{◌≡◌, ℕ, ◌≤◌, List, map, length, take, ℤ, Some, Ok, Err, Option, sym, refl, ap, ◌∙◌, subst, arith}
 use mathlib.Core.List.{map-map}
-use Rattle.std.proofs.lemmas.List.{length-map, map_push, map_more}
+use Rattle.std.proofs.lemmas.List.{length-map}
 use Rattle.numbering.specs.Numbering.{Numbering, Stuck}
 use Rattle.numbering.specs.Outcome.{Refused}
 use Rattle.numbering.specs.declared.NumberFault.{NumberFault}
@@ -13,21 +13,11 @@ use Rattle.partitions.specs.Places.{Apart}
 use Rattle.partitions.specs.Views.{paper_field, papers}
 use Rattle.partitions.specs.declared.fault.DraftFault.TheVariants.{NoNumber as Refusal}
 use Rattle.partitions.specs.declared.field.UnboundPartitionField.{UnboundPartitionField}
-use Rattle.closed.specs.Bare.{Bare, bare, bares, stateds}
+use Rattle.closed.specs.Bare.{bares, stateds}
 use Rattle.closed.specs.Closing.{ClosedAs, SomeStuck, ClosingLaws}
-use Rattle.closed.specs.Opened.{opened, openeds, ids_of}
+use Rattle.closed.specs.Opened.{openeds, ids_of}
 use Rattle.closed.specs.declared.field.PartitionField.{PartitionField}
 use Rattle.closed.proofs.Bares.{same_fields, same_length, names_kept, sources_kept, stated_once, distinct_apart, opened_state}
-
--- one more field is pushed, with an id
-module _ (fs : List UnboundPartitionField) (i : ℕ) (f : UnboundPartitionField) (lt : i < length fs) (read : f ≡ get_or fs i f) where
-  pub filled_more : (old new : List PartitionField) (x : PartitionField) → new ≡ old ++ x ∷ [] → bare (opened x) ≡ bare (paper_field f)
-      → bares (openeds old) ≡ bares (papers (take i fs)) → bares (openeds new) ≡ bares (papers (take (i + 1) fs))
-  filled_more old new x pushed same so =
-      ap (λ (l : List PartitionField). bares (openeds l)) pushed ∙ ap bares (map_push opened old x) ∙ map_push bare (openeds old) (opened x)
-      ∙ ap (λ (l : List Bare). l ++ bare (opened x) ∷ []) so
-      ∙ ap (λ (b : Bare). bares (papers (take i fs)) ++ b ∷ []) (same ∙ ap (λ (g : UnboundPartitionField). bare (paper_field g)) read)
-      ∙ sym (ap bares (map_more paper_field fs i f lt) ∙ map_push bare (papers (take i fs)) (paper_field (get_or fs i f)))
 
 -- what a spec keeps of its fields
 pub record Keeps (fs : List PaperField) : Type 0 where

@@ -1,20 +1,33 @@
 -- Two lists compared place by place by a view of their elements. Assumes nothing.
-use Rattle.std.proofs.Common.{◌≡◌, ℕ, ◌+◌, ◌<◌, ◌≤◌, List, [], ◌∷◌, ◌++◌, map, length, get_or, take, sym, ap, ◌∙◌}
-use Rattle.std.proofs.lemmas.List.{length-map, get_or-map, map_more, take_all}
+use Rattle.std.proofs.Common.{◌≡◌, ℕ, zero, suc, ◌<◌, Bool, true, false, List, [], ◌∷◌, map, length, Decides, sym, refl, ap, ◌∙◌, arith}
+use Rattle.std.specs.Bool.{MatchBool}
+use Rattle.std.specs.List.{zip, HoldsAt, AllWithin}
+use Rattle.std.proofs.lemmas.Bool.{false≢true}
+use Rattle.std.proofs.lemmas.List.{length-map}
 
 module _ {X Y : Type 0} (f : X → Y) (xs ys : List X) where
   pub same_views_length : map f xs ≡ map f ys → length xs ≡ length ys
   same_views_length e = sym (length-map xs f) ∙ ap length e ∙ length-map ys f
 
-  -- x and y are what is read at i
-  module _ (i : ℕ) (x y : X) (inside : i < length xs) (within : i < length ys) (reads : x ≡ get_or xs i x) (other : y ≡ get_or ys i y) where
-    pub views_more : map f (take i xs) ≡ map f (take i ys) → f x ≡ f y → map f (take (i + 1) xs) ≡ map f (take (i + 1) ys)
-    views_more so e =
-        let here : f (get_or xs i x) ≡ f (get_or ys i y) = ap f (sym reads) ∙ e ∙ ap f other in
-        map_more f xs i x inside ∙ ap (λ (l : List Y). l ++ f (get_or xs i x) ∷ []) so ∙ ap (λ (z : Y). map f (take i ys) ++ z ∷ []) here ∙ sym (map_more f ys i y within)
+module _ {X Y : Type 0} (f : X → Y) where
+  all_same : (xs ys : List X) → length xs ≡ length ys → AllWithin (λ p. f p.0 ≡ f p.1) (zip xs ys) 0 (length (zip xs ys)) → map f xs ≡ map f ys
+  all_same [] [] e h = refl
+  all_same [] (y ∷ ys) e h = absurd (omega arith)
+  all_same (x ∷ xs) [] e h = absurd (omega arith)
+  all_same (x ∷ xs) (y ∷ ys) e h =
+      let first : f x ≡ f y = h 0 (x, y) (omega arith) (omega arith) in
+      let later : map f xs ≡ map f ys = all_same xs ys (omega arith) (λ k d low high. h (suc k) d (omega arith) (omega arith)) in
+      λ i. first i ∷ later i
 
-    pub views_other : (f x ≡ f y → ⊥) → map f xs ≡ map f ys → ⊥
-    views_other n e = n (ap f reads ∙ sym (get_or-map f xs i x (f x) inside) ∙ ap (λ (l : List Y). get_or l i (f x)) e ∙ get_or-map f ys i y (f x) within ∙ ap f (sym other))
+  one_other : (xs ys : List X) (k : ℕ) → k < length (zip xs ys) → HoldsAt (λ p. f p.0 ≡ f p.1 → ⊥) (zip xs ys) k → map f xs ≡ map f ys → ⊥
+  one_other [] ys k lt h e = absurd (omega arith)
+  one_other (x ∷ xs) [] k lt h e = absurd (omega arith)
+  one_other (x ∷ xs) (y ∷ ys) zero lt h e = h (x, y) cc
+  one_other (x ∷ xs) (y ∷ ys) (suc k) lt h e = let later : map f xs ≡ map f ys = cc in one_other xs ys k (omega arith) h later
 
-  pub views_all : (i : ℕ) → length xs ≤ i → length ys ≤ i → map f (take i xs) ≡ map f (take i ys) → map f xs ≡ map f ys
-  views_all i p q so = ap (map f) (sym (take_all i xs p)) ∙ so ∙ ap (map f) (take_all i ys q)
+  -- by a test of each pair, where the lists are of one length
+  pub pairs_decided : (xs ys : List X) (r : Bool) → length xs ≡ length ys
+      → MatchBool r (AllWithin (λ p. f p.0 ≡ f p.1) (zip xs ys) 0 (length (zip xs ys))) ((k : ℕ) × (k < length (zip xs ys)) × HoldsAt (λ p. f p.0 ≡ f p.1 → ⊥) (zip xs ys) k)
+      → Decides r (map f xs ≡ map f ys)
+  pairs_decided xs ys true e h = (λ _. all_same xs ys e h, λ _. refl)
+  pairs_decided xs ys false e (k, lt, h) = (λ t. absurd (false≢true t), λ q. absurd (one_other xs ys k lt h q))

@@ -1,5 +1,6 @@
 // Partition fields that have their ids.
 ghost use Rattle.std.specs.Prelude.{◌≡◌, Decides};
+ghost use Rattle.partitions.specs.Views.{paper_field};
 ghost use Rattle.transforms.specs.declared.transform.Transform.TheVariants.{Void};
 ghost use Rattle.closed.specs.Bare.{bare};
 ghost use Rattle.closed.specs.Opened.{opened};
@@ -8,6 +9,7 @@ ghost use Rattle.closed.specs.EqualLaws.{field_eq_laws};
 
 use names::name::Name;
 use numbering::TellsId;
+use partitions::field::UnboundPartitionField;
 use transforms::transform::Transform;
 
 #[derive(Clone, Copy)]
@@ -35,6 +37,21 @@ impl PartitionField {
     }
 }
 
+// The field of a draft that states the id.
+impl From<PartitionField> for UnboundPartitionField {
+    ghost from_gives = { λ f r. paper_field r ≡ opened f };
+
+    fn from(field: PartitionField) -> UnboundPartitionField {
+        UnboundPartitionField {
+            source_id: field.source_id,
+            field_id: Some(field.field_id),
+            name: field.name,
+            transform: field.transform,
+        }
+    }
+}
+
+// kept: a derive promises only `value`
 impl PartialEq for PartitionField {
     ghost eq = { field_eq };
 

@@ -17,14 +17,8 @@ impl Recorded for PartitionSpec {
     }
 
     fn entry_at(&self, index: usize) -> Option<UnboundPartitionField> {
-        match self.fields().get(index) {
-            Some(field) => Some(UnboundPartitionField {
-                source_id: field.source_id,
-                field_id: Some(field.field_id),
-                name: field.name,
-                transform: field.transform,
-            }),
-            None => None,
-        }
+        self.fields()
+            .get(index)
+            .map(|field| UnboundPartitionField::from(*field))
     }
 }

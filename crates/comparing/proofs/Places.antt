@@ -1,25 +1,76 @@
--- Lists that have the same at every place. Assumes nothing.
-use Rattle.std.proofs.Common.{◌≡◌, ℕ, zero, suc, ◌+◌, ◌<◌, Bool, List, [], ◌∷◌, length, Some, None, Decides, Option, sym, refl, ap, ◌∙◌, arith}
-use Rattle.std.specs.List.{slice_get}
+-- Two lists beside each other, and what a view of their elements has at a place. Assumes nothing.
+use Rattle.std.proofs.Common.{◌≡◌, ℕ, zero, suc, ◌<◌, ◌≤◌, min, Bool, true, false, not, eqb, List, [], ◌∷◌, length, Some, None, Option, sym, refl, ap, ◌∙◌, subst, arith}
+use Rattle.std.specs.Bool.{then_some}
+use Rattle.std.specs.List.{slice_get, zip, HoldsAt, AllWithin}
+use Rattle.std.specs.Option.{MatchOption}
+use Rattle.std.proofs.lemmas.Bool.{eq-eqb, eqb-true, false≢true, not-false}
+use Rattle.std.proofs.lemmas.Slice.Zip.{length-zip}
+use Rattle.partitions.specs.declared.field.UnboundPartitionField.{UnboundPartitionField}
+use Rattle.partitions.specs.Equals.{field_eq}
+use Rattle.partitions.proofs.Same.{fields_decided}
+use Rattle.partitions.specs.Views.{paper_field, papers}
+use Rattle.comparing.specs.Partings.{PartAt}
 
-module _ {X : Type 0} where
-  some_same : (x y : X) → Some x ≡ Some y → x ≡ y
-  some_same x y e = cc
+-- what the test of a pair tells
+abbrev pub Same : UnboundPartitionField × UnboundPartitionField → Type 0
+Same p = false ≡ not (field_eq p.0 p.1)
 
-  none_some : (x : X) → None ≡ Some x → ⊥
-  none_some x e = let z : ◌≡◌ {A = ℕ} 0 1 = cc in omega arith
+abbrev pub Other : UnboundPartitionField × UnboundPartitionField → Type 0
+Other p = true ≡ not (field_eq p.0 p.1)
 
-  pub both : (o p : Option X) (x y : X) (r : Bool) → Some x ≡ o → Some y ≡ p → Decides r (x ≡ y) → Decides r (o ≡ p)
-  both o p x y r e f d = (λ q. sym e ∙ ap Some (d.0 q) ∙ f, λ q. d.1 (some_same x y (e ∙ q ∙ sym f)))
+same : (f g : UnboundPartitionField) → Same (f, g) → paper_field f ≡ paper_field g
+same f g e = (fields_decided f g).0 (not-false (field_eq f g) (sym e))
 
-  cons_same : (x y : X) (xs ys : List X) → x ≡ y → xs ≡ ys → x ∷ xs ≡ y ∷ ys
-  cons_same x y xs ys p q = cc
+other : (f g : UnboundPartitionField) → Other (f, g) → paper_field f ≡ paper_field g → ⊥
+other f g e q = true≢not (field_eq f g) e ((fields_decided f g).1 q)
+  where
+    true≢not : (b : Bool) → true ≡ not b → b ≡ true → ⊥
+    true≢not true e h = false≢true (sym e)
+    true≢not false e h = false≢true h
 
-  -- two lists that have the same at every place that one of them has are equal
-  pub same_from_places : (xs ys : List X) (n : ℕ) → length xs < n + 1 → length ys < n + 1 → ((k : ℕ) → k < n → slice_get xs k ≡ slice_get ys k) → xs ≡ ys
-  same_from_places [] [] n p q h = refl
-  same_from_places [] (y ∷ ys) n p q h = absurd (none_some y (h 0 (omega arith)))
-  same_from_places (x ∷ xs) [] n p q h = absurd (none_some x (sym (h 0 (omega arith))))
-  same_from_places (x ∷ xs) (y ∷ ys) zero p q h = absurd (omega arith)
-  same_from_places (x ∷ xs) (y ∷ ys) (suc n) p q h =
-      cons_same x y xs ys (some_same x y (h 0 (omega arith))) (same_from_places xs ys n (omega arith) (omega arith) (λ k l. h (suc k) (omega arith)))
+agree : (fs gs : List UnboundPartitionField) (n : ℕ) → n ≤ length (zip fs gs) → AllWithin Same (zip fs gs) 0 n → (k : ℕ) → k < n → slice_get (papers fs) k ≡ slice_get (papers gs) k
+agree [] gs n le h k lt = absurd (omega arith)
+agree (f ∷ fs) [] n le h k lt = absurd (omega arith)
+agree (f ∷ fs) (g ∷ gs) n le h zero lt = ap Some (same f g (h 0 (f, g) (omega arith) lt))
+agree (f ∷ fs) (g ∷ gs) zero le h (suc k) lt = absurd (omega arith)
+agree (f ∷ fs) (g ∷ gs) (suc n) le h (suc k) lt = agree fs gs n (omega arith) (λ j d low high. h (suc j) d (omega arith) (omega arith)) k (omega arith)
+
+differ : (fs gs : List UnboundPartitionField) (n : ℕ) → n < length (zip fs gs) → HoldsAt Other (zip fs gs) n → slice_get (papers fs) n ≡ slice_get (papers gs) n → ⊥
+differ [] gs n lt h e = absurd (omega arith)
+differ (f ∷ fs) [] n lt h e = absurd (omega arith)
+differ (f ∷ fs) (g ∷ gs) zero lt h e = other f g (h (f, g)) cc
+differ (f ∷ fs) (g ∷ gs) (suc n) lt h e = differ fs gs n (omega arith) h e
+
+-- where one ends, the other has an element, or they are of one length
+ends : (fs gs : List UnboundPartitionField) → (length fs ≡ length gs → ⊥) → slice_get (papers fs) (length (zip fs gs)) ≡ slice_get (papers gs) (length (zip fs gs)) → ⊥
+ends [] [] n e = n refl
+ends [] (g ∷ gs) n e = cc
+ends (f ∷ fs) [] n e = cc
+ends (f ∷ fs) (g ∷ gs) n e = ends fs gs (λ q. n (ap suc q)) e
+
+equal : (fs gs : List UnboundPartitionField) → length fs ≡ length gs → AllWithin Same (zip fs gs) 0 (length (zip fs gs)) → papers fs ≡ papers gs
+equal [] [] e h = refl
+equal [] (g ∷ gs) e h = absurd (omega arith)
+equal (f ∷ fs) [] e h = absurd (omega arith)
+equal (f ∷ fs) (g ∷ gs) e h =
+    let first : paper_field f ≡ paper_field g = same f g (h 0 (f, g) (omega arith) (omega arith)) in
+    λ i. first i ∷ equal fs gs (omega arith) (λ j d low high. h (suc j) d (omega arith) (omega arith)) i
+
+-- the first pair that differs, or else the place where the shorter ends, if one is
+pub first : (fs gs : List UnboundPartitionField) (o r : Option ℕ) (longer : Bool) (shared : ℕ)
+    → MatchOption o (AllWithin Same (zip fs gs) 0 (length (zip fs gs))) (λ i. (i < length (zip fs gs)) × HoldsAt Other (zip fs gs) i × AllWithin Same (zip fs gs) 0 i)
+    → MatchOption o (r ≡ then_some longer shared) (λ i. r ≡ Some i) → longer ≡ not (eqb (length fs) (length gs)) → shared ≡ min (length fs) (length gs)
+    → MatchOption r (papers fs ≡ papers gs) (λ place. PartAt (papers fs) (papers gs) place)
+first fs gs (Some i) r longer shared (lt, here, before) e l s =
+    subst (λ r. MatchOption r (papers fs ≡ papers gs) (λ place. PartAt (papers fs) (papers gs) place)) (sym e) (record { before = agree fs gs i (omega arith) before; here = differ fs gs i lt here })
+first fs gs None r true shared all e l s =
+    let q : shared ≡ length (zip fs gs) = s ∙ sym (length-zip fs gs) in
+    subst (λ r. MatchOption r (papers fs ≡ papers gs) (λ place. PartAt (papers fs) (papers gs) place)) (sym (e ∙ ap Some q))
+    (record { before = agree fs gs _ (omega arith) all; here = ends fs gs (λ x. false≢true (sym (l ∙ ap not (eq-eqb _ _ x)))) })
+first fs gs None r false shared all e l s =
+    subst (λ r. MatchOption r (papers fs ≡ papers gs) (λ place. PartAt (papers fs) (papers gs) place)) (sym e)
+    (equal fs gs (eqb-true _ _ (back (eqb (length fs) (length gs)) l)) all)
+  where
+    back : (b : Bool) → false ≡ not b → b ≡ true
+    back true e = refl
+    back false e = cc

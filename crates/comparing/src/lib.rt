@@ -1,11 +1,9 @@
 // Where two plans part.
 #![tactic(auto)]
 
-ghost use Rattle.std.specs.Prelude.{◌≡◌, Decides, MatchOption};
-ghost use Rattle.std.specs.List.{slice_get};
-ghost use Rattle.std.specs.Option.{option_map};
+ghost use Rattle.std.specs.Prelude.{◌≡◌, MatchOption};
 ghost use Rattle.partitions.specs.Specs.{paper_spec};
-ghost use Rattle.partitions.specs.Views.{paper_field, papers};
+ghost use Rattle.partitions.specs.Views.{papers};
 ghost use Rattle.comparing.specs.Partings.{PartAt, Parts};
 
 use partitions::field::UnboundPartitionField;
@@ -13,54 +11,34 @@ use partitions::spec::UnboundPartitionSpec;
 
 #[derive(Clone, Copy)]
 pub enum Parting {
-    Nowhere,
     SpecIds,
     // the fields at the place differ, or only one of the plans has one there
     Fields { place: usize },
 }
 
-pub fn compare(plan: &UnboundPartitionSpec, other: &UnboundPartitionSpec) -> Parting
+// None where the two are equal.
+pub fn compare(plan: &UnboundPartitionSpec, other: &UnboundPartitionSpec) -> Option<Parting>
     ensures { Parts (paper_spec plan.now) (paper_spec other.now) result }
 {
     if plan.spec_id() != other.spec_id() {
-        return Parting::SpecIds;
+        return Some(Parting::SpecIds);
     }
-    match first_difference(plan.fields(), other.fields()) {
-        Some(place) => Parting::Fields { place },
-        None => Parting::Nowhere,
-    }
+    let place = first_difference(plan.fields(), other.fields())?;
+    Some(Parting::Fields { place })
 }
 
+// The first place where the two do not have the same; past its end a list has nothing.
 fn first_difference(
     fields: &[UnboundPartitionField],
     others: &[UnboundPartitionField],
 ) -> Option<usize>
     ensures { MatchOption result (papers fields.now ≡ papers others.now) (λ place. PartAt (papers fields.now) (papers others.now) place) }
 {
-    for place in 0..fields.len().max(others.len()) {
-        if !same_at(fields, others, place) {
-            return Some(place);
-        }
-    }
-    None
-}
-
-// Whether both have the same at the place; past its end a list has nothing.
-fn same_at(fields: &[UnboundPartitionField], others: &[UnboundPartitionField], place: usize) -> bool
-    ensures { Decides result (slice_get (papers fields.now) place ≡ slice_get (papers others.now) place) }
-{
-    match (at(fields, place), at(others, place)) {
-        (Some(field), Some(other)) => *field == *other,
-        (None, None) => true,
-        _ => false,
-    }
-}
-
-fn at(fields: &[UnboundPartitionField], place: usize) -> Option<&UnboundPartitionField>
-    ensures { option_map (λ f. paper_field f.now) result ≡ slice_get (papers fields.now) place }
-{
-    match fields.get(place) {
-        Some(field) => Some(field),
-        None => None,
-    }
+    let shared = fields.len().min(others.len());
+    let lengths_differ = fields.len() != others.len();
+    fields
+        .iter()
+        .zip(others)
+        .position(|(field, other)| *field != *other)
+        .or_else(|| lengths_differ.then_some(shared))
 }

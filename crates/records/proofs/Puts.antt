@@ -1,6 +1,10 @@
 -- Bytes put one after another, and an entry in the parts that are put. Assumes nothing.
-use Rattle.std.proofs.Common.{◌≡◌, ℕ, ◌+◌, ◌-◌, ◌≤◌, List, [], ◌∷◌, ◌++◌, length, take, drop, Some, Option, sym, refl, ap, ◌∙◌, subst, append_assoc, zero-add, arith, length-append}
+use Rattle.std.proofs.Common.{◌≡◌, ℕ, ◌+◌, ◌-◌, ◌≤◌, List, [], ◌∷◌, ◌++◌, length, take, drop, Some, Option, Result, Ok, Err, sym, refl, ap, ◌∙◌, subst, append_assoc, zero-add, arith, length-append}
 use lib.Seq.{paste}
+use Rattle.std.specs.Result.{result_unwrap_or}
+use Rattle.std.proofs.lemmas.List.{take_at}
+use Rattle.texts.specs.Writing.{Wrote}
+use Rattle.texts.specs.declared.print.OutputShort.{OutputShort}
 use Rattle.std.proofs.lemmas.List.Edits.{paste_all, paste-paste}
 use Rattle.octets.specs.BigEndian.{be_id}
 use Rattle.octets.specs.Octets.{PutAt}
@@ -50,3 +54,8 @@ entry_parts e = simp append_assoc
 pub parts_same : (e : Entry) (len : ℕ) (head name text : List ℕ) → head ≡ be_id e.source ++ (flagged e.id ++ (length e.name ∷ [])) → name ≡ e.name → len ≡ length e.text → text ≡ e.text
     → ((head ++ name) ++ (len ∷ [])) ++ text ≡ entry_bytes e
 parts_same e len head name text p q r s = let whole = entry_parts e in cc
+
+-- a text that the room is long enough for, at the room's front
+pub printed_in : (text was now : List ℕ) (r : Result ℕ OutputShort) (n : ℕ) → Wrote text was now r → length text ≤ length was → n ≡ result_unwrap_or r 0 → (n ≡ length text) × (take n now ≡ text)
+printed_in text was now (Ok len) n w fits e = (e ∙ w.0, ap (take n) w.2 ∙ take_at text (drop len was) n (sym (e ∙ w.0)))
+printed_in text was now (Err f) n w fits e = absurd (omega (arith, w.0))

@@ -38,9 +38,6 @@ impl Recorded for UnboundPartitionSpec {
     }
 
     fn entry_at(&self, index: usize) -> Option<UnboundPartitionField> {
-        match self.fields().get(index) {
-            Some(field) => Some(*field),
-            None => None,
-        }
+        self.fields().get(index).copied()
     }
 }

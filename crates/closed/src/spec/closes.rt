@@ -44,10 +44,10 @@ fn fill(closed: &mut Vec<PartitionField>, fields: &[UnboundPartitionField], ids:
     ensures ids { ids_of closed.new.items ≡ take (length fields.now) ids.now }
 {
     closed.clear();
-    for (i, field) in fields.iter().enumerate() {
+    for (field, id) in fields.iter().zip(ids) {
         closed.push_reserved(PartitionField {
             source_id: field.source_id,
-            field_id: ids[i],
+            field_id: *id,
             name: field.name,
             transform: field.transform,
         });

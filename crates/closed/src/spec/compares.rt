@@ -14,18 +14,15 @@ impl PartitionSpec {
     {
         let fields = self.fields();
         let others = other.fields();
-        if fields.len() != others.len() {
-            return false;
-        }
-        for (place, field) in fields.iter().enumerate() {
-            if !field.is_compatible_with(&others[place]) {
-                return false;
-            }
-        }
-        true
+        fields.len() == others.len()
+            && fields
+                .iter()
+                .zip(others)
+                .all(|(field, other)| field.is_compatible_with(other))
     }
 }
 
+// kept: a derive promises only `value`
 impl PartialEq for PartitionSpec {
     ghost eq = { spec_eq };
 

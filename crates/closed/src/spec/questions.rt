@@ -11,12 +11,7 @@ impl PartitionSpec {
     pub fn is_unpartitioned(&self) -> bool
         ensures { Decides result (Unpartitioned (paper_closed self.now).fields) }
     {
-        for field in self.fields() {
-            if !field.is_void() {
-                return false;
-            }
-        }
-        true
+        self.fields().iter().all(|field| field.is_void())
     }
 
     // Whether the fields' ids count up from 1000.

@@ -48,6 +48,7 @@ fn write_types<S: Schema>(schema: &S, fields: &[PartitionField], into: &mut [Typ
     requires room { length fields.now ≤ length into.old }
     ensures { Typed (S.Schema.columns schema.now) (openeds fields.now) (length fields.now) into.old into.new }
 {
+    // kept: no plainer, because each place is written as well as written to
     for (place, field) in fields.iter().enumerate() {
         if let Ok(result_type) = type_of(schema, field) {
             into[place] = TypeField {

@@ -1,12 +1,12 @@
--- Where all places up to the longer length have the same, the lists are equal.
-use Rattle.std.proofs.Common.{arith}
-use Rattle.std.proofs.lemmas.List.{length-map}
-use Rattle.partitions.specs.Views.{papers}
-use Rattle.comparing.proofs.Places.{same_from_places}
+use Rattle.std.proofs.Common.{rules, tests, not, eqb, length, min, refl}
+use Rattle.std.proofs.lemmas.Iterator.{IsFirst-from_position, YieldsList-from_slice, YieldsList-from_zip}
+use Rattle.comparing.proofs.Places.{Same, Other, first}
 use Rattle.comparing.proofs.first_difference.Goals as goal
 
 pub returns : goal.returns
 returns c =
-    let longest = c.max-place-end.ensures in
-    same_from_places (papers c.args.fields.now) (papers c.args.others.now) c.loop-place.place
-    (simp length-map (omega arith)) (simp length-map (omega arith)) c.loop-place.invariant
+    let fs = c.args.fields.now in
+    let gs = c.args.others.now in
+    first fs gs c.position.result c.or_else.result (not (eqb (length fs) (length gs))) (min (length fs) (length gs))
+    (IsFirst-from_position c.position.new.self _ c.position.result Other Same c.position.ensures.ran (YieldsList-from_zip (YieldsList-from_slice fs cc) (YieldsList-from_slice gs cc)) (λ x q k. search (rules, tests)) (λ x q k. search (rules, tests)))
+    (search (rules, tests)) refl refl
