@@ -1,5 +1,5 @@
 -- The steps of the loops that number a draft. Assumes nothing.
-use Rattle.std.proofs.Common.{◌≡◌, ℕ, ◌+◌, ◌<◌, ◌≤◌, List, [], ◌∷◌, ◌++◌, map, length, get_or, take, drop, set, ℤ, pos, ◌+ℤ◌, ◌≤ℤ◌, ◌<ℤ◌, Some, None, Option, sym, refl, ap, ◌∙◌, subst, arith, w32, SFits, below_none, below_more}
+use Rattle.std.proofs.Common.{◌≡◌, ℕ, ◌+◌, ◌<◌, ◌≤◌, List, [], ◌∷◌, ◌++◌, map, length, get_or, take, drop, set, ℤ, pos, ◌≤ℤ◌, ◌<ℤ◌, Some, None, Option, sym, refl, ap, ◌∙◌, subst, arith, below_none, below_more}
 use Rattle.std.specs.Int.{int_max}
 use Rattle.std.specs.List.{ContainsAt as Has, AllByRecursion}
 use Rattle.std.proofs.lemmas.Int.{ints, clamps, by_lt_z}
@@ -54,33 +54,6 @@ least_free draft last n fits past un passed = (
   λ m p. by_lt_z m n (λ lt. absurd (p.unstated (passed m p.past_start lt))) (λ h. h),
 )
 
--- the search for it so far: each number above `last` up to n is stated
-pub record Passed (draft : List (Option ℤ)) (last n : ℤ) : Type 0 where
-  pub up : last ≤ℤ n
-  pub stated : (m : ℤ) → last <ℤ m → m ≤ℤ n → Has draft (Some m)
-
-pub passed_none : (draft : List (Option ℤ)) (last : ℤ) → Passed draft last last
-passed_none draft last = record { up = omega (arith, ints); stated = λ m above upto. absurd (between m above upto) }
-  where
-    between : (m : ℤ) → last <ℤ m → m ≤ℤ last → ⊥
-    between m a b = omega (arith, ints)
-
-module _ (draft : List (Option ℤ)) (last n : ℤ) (p : Passed draft last n) where
-  pub passed_all : n ≡ pos 2147483647 → (m : ℤ) → Permitted last draft [] m → ⊥
-  passed_all end m a = let fits = a.fits in a.unstated (p.stated m a.past_start (omega (arith, ints)))
-
-  module _ (next : ℤ) (is : next ≡ n +ℤ pos 1) where
-    pub free_here : SFits w32 next → (Has draft (Some next) → ⊥) → Least (Permitted last draft []) next
-    free_here fits un = let le = p.up in least_free draft last next (omega (arith, ints)) (omega (arith, ints)) un (λ m above lt. p.stated m above (omega (arith, ints)))
-
-    pub passed_more : Has draft (Some next) → Passed draft last next
-    passed_more has = let le = p.up in record {
-      up = omega (arith, ints);
-      stated = λ m above upto. by_lt_z n m
-          (λ past. let e : next ≡ m = omega (arith, ints) in subst (λ z. Has draft (Some z)) e has)
-          (λ below. p.stated m above below);
-    }
-
 module _ (start : ℤ) (draft : List (Option ℤ)) where
   pub numbered_none : Numbered start draft 0 []
   numbered_none = record { size = refl; stated = λ i n lt. absurd (below_none (λ _. ⊥) i lt); given = λ i lt. absurd (below_none (λ _. ⊥) i lt) }
@@ -112,9 +85,6 @@ pub record Turned (start : ℤ) (draft : List (Option ℤ)) (old new : List ℤ)
   pub numbered : Numbered start draft k (take k new)
   pub tops : Tops start (take k new) top
   pub rest : drop k new ≡ drop k old
-
-pub turn_first : (start : ℤ) (draft : List (Option ℤ)) (old : List ℤ) → Turned start draft old old 0 start
-turn_first start draft old = record { numbered = numbered_none start draft; tops = tops_none start; rest = refl }
 
 module _ {X : Type 0} (f : X → Option ℤ) (fs : List X) (start : ℤ) (old new : List ℤ) (k : ℕ) (top : ℤ) (a : Turned start (map f fs) old new k top) where
   -- the field at k has no number

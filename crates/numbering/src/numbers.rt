@@ -5,7 +5,6 @@ ghost use Rattle.numbering.specs.Numbering.{Least, Permitted};
 ghost use Rattle.numbering.specs.OneField.{IsId, NoId, After};
 ghost use Rattle.numbering.specs.Outcome.{Answered, Lawful};
 
-use crate::questions::higher;
 use crate::{NumberFault, StatesId};
 
 // Writes the fields' ids to the front of `ids`. Each field without an id gets its least permitted number: above the
@@ -19,11 +18,9 @@ pub fn number<T: StatesId>(start: i32, fields: &[T], ids: &mut [i32]) -> Result<
     }
     let mut last = start;
     for (index, field) in fields.iter().enumerate() {
-        let Some(id) = id_of(fields, field, last) else {
-            return Err(NumberFault::NoNumber { index });
-        };
+        let id = id_of(fields, field, last).ok_or(NumberFault::NoNumber { index })?;
         ids[index] = id;
-        last = higher(last, id);
+        last = last.max(id);
     }
     Ok(())
 }
@@ -32,24 +29,14 @@ pub fn number<T: StatesId>(start: i32, fields: &[T], ids: &mut [i32]) -> Result<
 fn id_of<T: StatesId>(fields: &[T], field: &T, last: i32) -> Option<i32>
     ensures { MatchOption result (NoId last (map T.StatesId.stated fields.now) (T.StatesId.stated field.now)) (λ n. IsId last (map T.StatesId.stated fields.now) (T.StatesId.stated field.now) n) }
 {
-    match field.stated_id() {
-        Some(id) => Some(id),
-        None => next_free(fields, last),
-    }
+    field.stated_id().or_else(|| next_free(fields, last))
 }
 
 // The least number above `last` that no field states.
 fn next_free<T: StatesId>(fields: &[T], last: i32) -> Option<i32>
     ensures { MatchOption result ((n : ℤ) → Permitted last (map T.StatesId.stated fields.now) [] n → ⊥) (λ n. Least (Permitted last (map T.StatesId.stated fields.now) []) n) }
 {
-    let mut n = last;
-    while let Some(next) = after(n) {
-        if !some_states(fields, next) {
-            return Some(next);
-        }
-        n = next;
-    }
-    None
+    (after(last)?..=i32::MAX).find(|next| !some_states(fields, *next))
 }
 
 // The number after n, where there is one.
@@ -63,20 +50,5 @@ fn after(n: i32) -> Option<i32>
 fn some_states<T: StatesId>(fields: &[T], n: i32) -> bool
     ensures { Decides result (Has (map T.StatesId.stated fields.now) (Some n)) }
 {
-    for (i, field) in fields.iter().enumerate() {
-        if states(field, n) {
-            return true;
-        }
-    }
-    false
-}
-
-// Whether the field states the number.
-fn states<T: StatesId>(field: &T, n: i32) -> bool
-    ensures { Decides result (T.StatesId.stated field.now ≡ Some n) }
-{
-    match field.stated_id() {
-        Some(id) => id == n,
-        None => false,
-    }
+    fields.iter().any(|field| field.stated_id() == Some(n))
 }
