@@ -1,5 +1,5 @@
 -- The fields of a closed spec. Assumes nothing.
-use Rattle.std.proofs.Common.{◌≡◌, List, [], ◌∷◌, length, ℤ, Some, None, vec_items, vec_len, Option, sym, ap, ◌∙◌, subst, arith, MatchOption}
+use Rattle.std.proofs.Common.{◌≡◌, List, [], ◌∷◌, length, ℤ, Some, None, Option, sym, ap, ◌∙◌, subst, arith, MatchOption}
 use Rattle.std.specs.List.{AllByRecursion}
 use Rattle.std.proofs.lemmas.List.{length-map, nil_from_length}
 use Rattle.names.specs.GoodName.{GoodName}
@@ -14,8 +14,8 @@ use Rattle.closed.specs.declared.field.PartitionField.{PartitionField}
 use Rattle.closed.specs.declared.spec.PartitionSpec.{PartitionSpec}
 use Rattle.closed.proofs.Bares.{opened_state, apart_distinct}
 
-pub length_closed : (s : PartitionSpec) → length (paper_closed s).fields ≡ vec_len s.fields
-length_closed s = length-map (vec_items s.fields) opened ∙ sym s.fields.ok.0
+pub length_closed : (s : PartitionSpec) → length (paper_closed s).fields ≡ length s.fields
+length_closed s = length-map s.fields opened
 
 good_names : (fs : List PartitionField) → AllByRecursion (λ f. GoodName f.name) (openeds fs)
 good_names [] = tt
@@ -24,10 +24,10 @@ good_names (f ∷ fs) = (held (name_bytes f.name) f.name.good, good_names fs)
 pub buildable_closed : (s : PartitionSpec) → Buildable (paper_closed s).fields
 buildable_closed s =
     let size = length_closed s in
-    record { few = omega (arith, s.few); good = good_names (vec_items s.fields); names = s.names; sources = s.sources; ids = s.ids }
+    record { few = omega (arith, s.few); good = good_names s.fields; names = s.names; sources = s.sources; ids = s.ids }
 
 pub distinct_closed : (s : PartitionSpec) → Distinct (closed_ids s)
-distinct_closed s = apart_distinct (paper_closed s).fields (closed_ids s) (opened_state (vec_items s.fields)) s.ids
+distinct_closed s = apart_distinct (paper_closed s).fields (closed_ids s) (opened_state s.fields) s.ids
 
 -- the highest id of fields, on paper
 pub highest_closed : (fs : List PartitionField) (r : Option ℤ) → MatchOption r (length fs ≡ 0) (λ id. Highest (ids_of fs) id)

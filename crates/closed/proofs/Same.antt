@@ -1,5 +1,5 @@
 -- `==` of fields and of slices of them, compared on paper. Assumes nothing.
-use Rattle.std.proofs.Common.{◌≡◌, Bool, List, Some, vec_items, Decides, sym, ap, ◌∙◌}
+use Rattle.std.proofs.Common.{◌≡◌, Bool, List, Some, Decides, sym, ap, ◌∙◌}
 use Rattle.std.specs.Cmp.Lexicographic.{pointwise, bytes_decides}
 use Rattle.std.proofs.lemmas.Bool.Decides.{same_from_decides, Decides-like, Decides-and, Decides-int_eq}
 use Rattle.names.specs.NameBytes.{name_bytes}
@@ -34,9 +34,9 @@ field_eq-Decides x y =
 pub spec_eq-Decides : (x y : PartitionSpec) → Decides (spec_eq x y) (paper_closed x ≡ paper_closed y)
 spec_eq-Decides x y =
     Decides-like _
-    (λ (p : (x.spec_id ≡ y.spec_id) × (openeds (vec_items x.fields) ≡ openeds (vec_items y.fields))) i. record { spec_id = Some (p.0 i); fields = p.1 i })
+    (λ (p : (x.spec_id ≡ y.spec_id) × (openeds x.fields ≡ openeds y.fields)) i. record { spec_id = Some (p.0 i); fields = p.1 i })
     (λ e. (some_same _ _ (ap (λ (s : PaperSpec). s.spec_id) e), ap (λ (s : PaperSpec). s.fields) e))
-    (Decides-and _ _ (Decides-int_eq x.spec_id y.spec_id) (views opened field_eq field_eq-Decides (vec_items x.fields) (vec_items y.fields)))
+    (Decides-and _ _ (Decides-int_eq x.spec_id y.spec_id) (views opened field_eq field_eq-Decides x.fields y.fields))
 
 -- what the fields compute to is told by their fields on paper
 pub fields_computed : (xs ys us vs : List PartitionField) (r : Bool) → openeds xs ≡ openeds us → openeds ys ≡ openeds vs → r ≡ pointwise field_eq xs ys → r ≡ pointwise field_eq us vs

@@ -1,5 +1,4 @@
 -- `==` of fields and of closed specs is symmetric and transitive, as its parts are. Assumes nothing.
-use Rattle.std.specs.Prelude.{vec_items}
 use Rattle.std.specs.Cmp.{IsPartialEquivalence, and_per, on_per, partial_equiv_from_equiv, int_eq_equiv}
 use Rattle.std.specs.Cmp.Lexicographic.{lists_per, nat_list_eq_equiv}
 use Rattle.names.specs.NameBytes.{name_bytes}
@@ -15,4 +14,4 @@ pub field_eq_laws : IsPartialEquivalence field_eq
 field_eq_laws = and_per (on_per (λ f. f.field_id) (partial_equiv_from_equiv int_eq_equiv)) bare_eq_laws
 
 pub spec_eq_laws : IsPartialEquivalence spec_eq
-spec_eq_laws = and_per (on_per (λ s. s.spec_id) (partial_equiv_from_equiv int_eq_equiv)) (on_per (λ s. vec_items s.fields) (lists_per field_eq_laws))
+spec_eq_laws = and_per (on_per (λ s. s.spec_id) (partial_equiv_from_equiv int_eq_equiv)) (on_per (λ s. s.fields) (lists_per field_eq_laws))

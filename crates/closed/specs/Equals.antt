@@ -1,5 +1,5 @@
 -- What `==` computes of two fields and of two closed specs: part by part, a name by its bytes. Assumes nothing.
-use Rattle.std.specs.Prelude.{◌≡◌, Bool, Decides, nat_eq, vec_items}
+use Rattle.std.specs.Prelude.{◌≡◌, Bool, Decides, nat_eq}
 use Rattle.std.specs.Cmp.Lexicographic.{pointwise}
 use Rattle.std.specs.Ordering.{int_eq, on, eq_of_both}
 use Rattle.names.specs.NameBytes.{name_bytes}
@@ -19,7 +19,7 @@ abbrev pub field_eq : PartitionField → PartitionField → Bool
 field_eq = eq_of_both (on (λ f. f.field_id) int_eq) bare_eq
 
 abbrev pub spec_eq : PartitionSpec → PartitionSpec → Bool
-spec_eq = eq_of_both (on (λ s. s.spec_id) int_eq) (on (λ s. vec_items s.fields) (pointwise field_eq))
+spec_eq = eq_of_both (on (λ s. s.spec_id) int_eq) (on (λ s. s.fields) (pointwise field_eq))
 
 -- they are that the two are the same on paper
 abbrev pub FieldsAreEqualExactlyWhenTheSame : Type 0

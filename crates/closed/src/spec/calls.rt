@@ -9,7 +9,7 @@ ghost use Rattle.closed.specs.Opened.{openeds, ids_of};
 
 use super::PartitionSpec;
 use crate::field::PartitionField;
-use partitions::validator::MAX_FIELDS;
+use bounded::Bounded;
 use std::alloc::{AllocError, Global};
 
 impl PartitionSpec {
@@ -17,7 +17,7 @@ impl PartitionSpec {
     pub fn new(heap: Global) -> Result<PartitionSpec, AllocError>
         ensures { IfOk result (λ s. paper_closed s ≡ record { spec_id = Some (pos 0); fields = [] }) }
     {
-        let fields = Vec::with_capacity(heap, MAX_FIELDS)?;
+        let fields = Bounded::new(heap)?;
         Ok(PartitionSpec { spec_id: 0, fields })
     }
 

@@ -1,5 +1,5 @@
 // Closing: the fields of a draft get the ids that they lack.
-ghost use Rattle.std.specs.Prelude.{◌≡◌, ◌≤◌, length, take, vec_len, vec_capacity};
+ghost use Rattle.std.specs.Prelude.{◌≡◌, ◌≤◌, length, take};
 ghost use Rattle.partitions.specs.Listed.{listed};
 ghost use Rattle.partitions.specs.Views.{papers};
 ghost use Rattle.closed.specs.Bare.{bares};
@@ -9,6 +9,7 @@ ghost use Rattle.closed.specs.Opened.{openeds, ids_of};
 
 use super::PartitionSpec;
 use crate::field::PartitionField;
+use bounded::Bounded;
 use numbering::number;
 use partitions::fault::DraftFault;
 use partitions::field::UnboundPartitionField;
@@ -24,6 +25,7 @@ impl PartitionSpec {
     {
         let fields = fields.as_slice();
         let mut ids = [0i32; MAX_FIELDS];
+        // kept: no plainer with map_err and `?`, since what the numbering tells is passed over
         if let Err(_) = number(start, fields, &mut ids) {
             return Err(DraftFault::NoNumber);
         }
@@ -34,18 +36,21 @@ impl PartitionSpec {
 }
 
 // The fields, each with its id.
-fn fill(closed: &mut Vec<PartitionField>, fields: &[UnboundPartitionField], ids: &[i32])
+fn fill(
+    closed: &mut Bounded<PartitionField, MAX_FIELDS>,
+    fields: &[UnboundPartitionField],
+    ids: &[i32],
+)
     requires few { length fields.now ≤ 64 }
-    requires room { 64 ≤ vec_capacity closed.old }
     requires enough { length fields.now ≤ length ids.now }
-    ensures len { vec_len closed.new ≡ length fields.now }
-    ensures cap { 64 ≤ vec_capacity closed.new }
-    ensures rest { bares (openeds closed.new.items) ≡ bares (papers fields.now) }
-    ensures ids { ids_of closed.new.items ≡ take (length fields.now) ids.now }
+    ensures len { length closed.new ≡ length fields.now }
+    ensures rest { bares (openeds closed.new) ≡ bares (papers fields.now) }
+    ensures ids { ids_of closed.new ≡ take (length fields.now) ids.now }
 {
     closed.clear();
     for (field, id) in fields.iter().zip(ids) {
-        closed.push_reserved(PartitionField {
+        // there is room, so this is never refused
+        let _ = closed.push(PartitionField {
             source_id: field.source_id,
             field_id: *id,
             name: field.name,

@@ -4,7 +4,7 @@ ghost use Rattle.partitions.specs.Specs.{paper_spec};
 ghost use Rattle.closed.specs.Closed.{paper_closed};
 
 use super::PartitionSpec;
-use partitions::field::FieldView;
+use partitions::field::UnboundPartitionField;
 use partitions::spec::UnboundPartitionSpec;
 
 impl PartitionSpec {
@@ -15,12 +15,7 @@ impl PartitionSpec {
         unbound.restart(Some(self.spec_id));
         let fields = self.fields();
         for field in fields {
-            let _ = unbound.add_partition_field(&FieldView {
-                source_id: field.source_id,
-                field_id: Some(field.field_id),
-                name: field.name.as_bytes(),
-                transform: field.transform,
-            });
+            let _ = unbound.add_partition_field(&UnboundPartitionField::from(*field).view());
         }
     }
 

@@ -1,5 +1,5 @@
 -- The ids are numbered apart from the spec, and only then filled in.
-use Rattle.std.proofs.Common.{length, take, replicate, pos, Some, vec_items, refl, ap, arith, w32, SFits}
+use Rattle.std.proofs.Common.{length, take, replicate, pos, Some, refl, ap, arith, w32, SFits}
 use Rattle.std.proofs.lemmas.Int.{to_z-of_z}
 use Rattle.std.proofs.lemmas.List.{length-replicate}
 use Rattle.numbering.specs.Numbering.{Numbering}
@@ -29,12 +29,11 @@ returns-in-Err c =
 pub fill-requires : goal.fill-requires
 fill-requires c =
     let few = few_fields c.as_slice-fields.result.now c.as_slice-fields.ensures.buildable in
-    let room = c.args.self.now.room in
-    record { few = few; room = room; enough = omega arith }
+    record { few = few; enough = omega arith }
 
 -- what is filled in is the draft's fields, closed
 module _ (c : After-fill) where
-  filled : ClosedAs c.args.start (listed c.args.fields.now) (openeds (vec_items c.fill.new.closed)) (ids_of (vec_items c.fill.new.closed))
+  filled : ClosedAs c.args.start (listed c.args.fields.now) (openeds c.fill.new.closed) (ids_of c.fill.new.closed)
   filled =
       let start = c.args.start in
       let fs = c.as_slice-fields.result.now in
@@ -43,14 +42,14 @@ module _ (c : After-fill) where
       let id : SFits w32 c.args.spec_id = c.ranges.spec_id in
       let numbers : Numbering start (states start fs draft c.as_slice-fields.ensures.same) (take (length (states start fs draft c.as_slice-fields.ensures.same)) c.number.new.ids)
       = simp to_z-of_z at c.in_default.ensures.answer.numbering in
-      closed_as start fs draft c.as_slice-fields.ensures.same (vec_items c.fill.new.closed) c.number.new.ids numbers c.fill.ensures.rest c.fill.ensures.ids
+      closed_as start fs draft c.as_slice-fields.ensures.same c.fill.new.closed c.number.new.ids numbers c.fill.ensures.rest c.fill.ensures.ids
 
 pub invariant_of-self : goal.invariant_of-self
 invariant_of-self c =
     let draft = listed c.args.fields.now in
     let few = few_fields c.as_slice-fields.result.now c.as_slice-fields.ensures.buildable in
-    let k = keeps_closed c.args.start draft (openeds (vec_items c.fill.new.closed)) (ids_of (vec_items c.fill.new.closed)) (buildable_listed c.args.fields.now) (filled c) in
-    record { few = omega (arith, c.fill.ensures.len); room = c.fill.ensures.cap; names = k.names; sources = k.sources; ids = k.ids }
+    let k = keeps_closed c.args.start draft (openeds c.fill.new.closed) (ids_of c.fill.new.closed) (buildable_listed c.args.fields.now) (filled c) in
+    record { few = omega (arith, c.fill.ensures.len); names = k.names; sources = k.sources; ids = k.ids }
 
 pub returns : goal.returns
 returns c =
@@ -58,5 +57,5 @@ returns c =
     let closed = filled (goal.at.returns c).After-fill in
     record {
       answer = (ap Some (to_z-of_z w32 c.args.spec_id fits), closed);
-      laws = laws_closed c.args.start (listed c.args.fields.now) (openeds (vec_items c.fill.new.closed)) (ids_of (vec_items c.fill.new.closed)) tt closed;
+      laws = laws_closed c.args.start (listed c.args.fields.now) (openeds c.fill.new.closed) (ids_of c.fill.new.closed) tt closed;
     }

@@ -1,9 +1,8 @@
 -- Each turn adds one field.
-use Rattle.std.proofs.Common.{ℕ, List, Some, ◌∙◌, subst, arith, w32, SFits, rules}
-use Rattle.std.proofs.lemmas.Int.{to_z-of_z}
+use Rattle.std.proofs.Common.{◌∙◌, subst, arith}
 use Rattle.std.proofs.lemmas.List.{length-map, take_all}
 use Rattle.partitions.specs.Adds.{Adds}
-use Rattle.partitions.specs.Fields.{field_of}
+use Rattle.partitions.specs.Fields.{PaperField}
 use Rattle.partitions.specs.Specs.{paper_spec}
 use Rattle.closed.specs.Opened.{opened, openeds}
 use Rattle.closed.proofs.Asked.{opened_at}
@@ -16,12 +15,9 @@ loop-field-preserved c =
     let fs = c.fields-fields.result.now in
     let i = c.loop-field.field-index in
     let size = length-map fs opened in
-    let source : SFits w32 f.source_id = search rules in
-    let id : SFits w32 f.field_id = search rules in
     let before = (paper_spec c.loop-field.unbound).fields in
     let after = (paper_spec c.add_partition_field.new.self).fields in
-    let passed : Adds before (field_of f.source_id (Some f.field_id) c.as_bytes.result.now f.transform) c.add_partition_field.result after = simp to_z-of_z at c.add_partition_field.ensures.fields in
-    let adds = subst (λ (name : List ℕ). Adds before (field_of f.source_id (Some f.field_id) name f.transform) c.add_partition_field.result after) c.as_bytes.ensures.same passed in (
+    let adds = subst (λ (g : PaperField). Adds before g c.add_partition_field.result after) (c.view.ensures ∙ c.from.ensures) c.add_partition_field.ensures.fields in (
       c.add_partition_field.ensures.spec_id ∙ c.loop-field.invariant.0,
       added_next (openeds fs) i (opened f) (omega arith) c.fields-fields.ensures.buildable (opened_at fs i f c.loop-field-test.true c.field-item.is) c.add_partition_field.result before after c.loop-field.invariant.1 adds,
     )

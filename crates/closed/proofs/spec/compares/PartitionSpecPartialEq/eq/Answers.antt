@@ -1,5 +1,5 @@
 -- Equal ids and equal fields, on paper.
-use Rattle.std.proofs.Common.{◌≡◌, ◌&&◌, Some, vec_items, sym, ap, ◌∙◌, rules}
+use Rattle.std.proofs.Common.{◌≡◌, ◌&&◌, Some, sym, ap, ◌∙◌, rules}
 use Rattle.std.specs.Cmp.Lexicographic.{pointwise}
 use Rattle.std.proofs.lemmas.Bool.Decides.{Decides-int_eq}
 use Rattle.partitions.proofs.Same.{views_decided, specs_decided}
@@ -17,9 +17,9 @@ returns-then-self-other-clause-decides c =
 
 pub returns-then-self-other-clause-value : goal.returns-then-self-other-clause-value
 returns-then-self-other-clause-value c =
-    let fields = fields_computed c.fields.result.now c.fields-then-self-other.result.now (vec_items c.args.self.now.fields) (vec_items c.args.other.now.fields) c.eq.result c.fields.ensures.same c.fields-then-self-other.ensures.same c.eq.ensures in
+    let fields = fields_computed c.fields.result.now c.fields-then-self-other.result.now c.args.self.now.fields c.args.other.now.fields c.eq.result c.fields.ensures.same c.fields-then-self-other.ensures.same c.eq.ensures in
     let ids : c.args.self.now.spec_id ≡ c.args.other.now.spec_id = search rules in
-    fields ∙ ap (λ b. b && pointwise field_eq (vec_items c.args.self.now.fields) (vec_items c.args.other.now.fields)) (sym ((Decides-int_eq c.args.self.now.spec_id c.args.other.now.spec_id).1 ids))
+    fields ∙ ap (λ b. b && pointwise field_eq c.args.self.now.fields c.args.other.now.fields) (sym ((Decides-int_eq c.args.self.now.spec_id c.args.other.now.spec_id).1 ids))
 
 pub returns-then-self-other-clause-exactly : goal.returns-then-self-other-clause-exactly
 returns-then-self-other-clause-exactly c = spec_eq-Decides
