@@ -8,7 +8,7 @@ ghost use Rattle.closed.specs.Equals.{field_eq, FieldsAreEqualExactlyWhenTheSame
 ghost use Rattle.closed.specs.EqualLaws.{field_eq_laws};
 
 use names::name::Name;
-use numbering::TellsId;
+use numbering::Identified;
 use partitions::field::UnboundPartitionField;
 use transforms::transform::Transform;
 
@@ -66,8 +66,8 @@ impl PartialEq for PartitionField {
     }
 }
 
-impl TellsId for PartitionField {
-    ghost idOf = { λ f. f.field_id };
+impl Identified<i32> for PartitionField {
+    ghost id = { λ f. f.field_id };
 
     fn field_id(&self) -> i32 {
         self.field_id

@@ -7,7 +7,7 @@ ghost use Rattle.closed.specs.declared.types.TypeFault.TheVariants.{NoResult};
 use faults::Fault;
 use faults::error::{ErrorKind, Layer};
 use faults::refusal::Refusal;
-use numbering::TellsId;
+use numbering::Identified;
 use transforms::datatypes::Type;
 use transforms::transform::TypeFault as TransformFault;
 
@@ -36,8 +36,8 @@ pub fn has_sequential_ids(fields: &[TypeField]) -> bool
     numbering::has_sequential_ids(fields)
 }
 
-impl TellsId for TypeField {
-    ghost idOf = { λ f. f.field_id };
+impl Identified<i32> for TypeField {
+    ghost id = { λ f. f.field_id };
 
     fn field_id(&self) -> i32 {
         self.field_id

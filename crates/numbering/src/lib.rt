@@ -1,7 +1,7 @@
 // The ids of partition fields: the missing ones are given, and those that are there are asked about.
 #![tactic(auto)]
 
-ghost use Rattle.std.specs.Prelude.{◌≡◌, ℤ, Option};
+ghost use Rattle.std.specs.Prelude.{◌≡◌};
 
 mod numbers;
 mod questions;
@@ -11,20 +11,12 @@ pub use numbers::number;
 pub use questions::{has_sequential_ids, highest_field_id};
 pub use worked::worked_examples_stand;
 
-// What states a field id, or none.
-pub trait StatesId {
-    ghost stated: { Self → Option ℤ };
+// What has a field id: an `i32`, or an `Option<i32>` where the id may be missing.
+pub trait Identified<Id> {
+    ghost id: { Self → Id };
 
-    fn stated_id(&self) -> Option<i32>
-        ensures { result ≡ stated self.now };
-}
-
-// What has a field id.
-pub trait TellsId {
-    ghost idOf: { Self → ℤ };
-
-    fn field_id(&self) -> i32
-        ensures { result ≡ idOf self.now };
+    fn field_id(&self) -> Id
+        ensures { result ≡ id self.now };
 }
 
 // Why fields are not numbered.

@@ -5,13 +5,17 @@ ghost use Rattle.numbering.specs.Numbering.{Least, Permitted};
 ghost use Rattle.numbering.specs.OneField.{IsId, NoId, After};
 ghost use Rattle.numbering.specs.Outcome.{Answered, Lawful};
 
-use crate::{NumberFault, StatesId};
+use crate::{Identified, NumberFault};
 
 // Writes the fields' ids to the front of `ids`. Each field without an id gets its least permitted number: above the
 // start, above every earlier id, stated by no field, and at most 2147483647. Refused at the first that has none.
-pub fn number<T: StatesId>(start: i32, fields: &[T], ids: &mut [i32]) -> Result<(), NumberFault>
-    ensures answer { Answered start (map T.StatesId.stated fields.now) ids.old ids.new result }
-    ensures lawful { Lawful start (map T.StatesId.stated fields.now) ids.new result }
+pub fn number<T: Identified<Option<i32>>>(
+    start: i32,
+    fields: &[T],
+    ids: &mut [i32],
+) -> Result<(), NumberFault>
+    ensures answer { Answered start (map T.Identified.id fields.now) ids.old ids.new result }
+    ensures lawful { Lawful start (map T.Identified.id fields.now) ids.new result }
 {
     if ids.len() < fields.len() {
         return Err(NumberFault::Short);
@@ -26,15 +30,15 @@ pub fn number<T: StatesId>(start: i32, fields: &[T], ids: &mut [i32]) -> Result<
 }
 
 // The id of a field: what it states, or the least number above `last` that no field states.
-fn id_of<T: StatesId>(fields: &[T], field: &T, last: i32) -> Option<i32>
-    ensures { MatchOption result (NoId last (map T.StatesId.stated fields.now) (T.StatesId.stated field.now)) (λ n. IsId last (map T.StatesId.stated fields.now) (T.StatesId.stated field.now) n) }
+fn id_of<T: Identified<Option<i32>>>(fields: &[T], field: &T, last: i32) -> Option<i32>
+    ensures { MatchOption result (NoId last (map T.Identified.id fields.now) (T.Identified.id field.now)) (λ n. IsId last (map T.Identified.id fields.now) (T.Identified.id field.now) n) }
 {
-    field.stated_id().or_else(|| next_free(fields, last))
+    field.field_id().or_else(|| next_free(fields, last))
 }
 
 // The least number above `last` that no field states.
-fn next_free<T: StatesId>(fields: &[T], last: i32) -> Option<i32>
-    ensures { MatchOption result ((n : ℤ) → Permitted last (map T.StatesId.stated fields.now) [] n → ⊥) (λ n. Least (Permitted last (map T.StatesId.stated fields.now) []) n) }
+fn next_free<T: Identified<Option<i32>>>(fields: &[T], last: i32) -> Option<i32>
+    ensures { MatchOption result ((n : ℤ) → Permitted last (map T.Identified.id fields.now) [] n → ⊥) (λ n. Least (Permitted last (map T.Identified.id fields.now) []) n) }
 {
     (after(last)?..=i32::MAX).find(|next| !some_states(fields, *next))
 }
@@ -47,8 +51,8 @@ fn after(n: i32) -> Option<i32>
 }
 
 // Whether some field states the number.
-fn some_states<T: StatesId>(fields: &[T], n: i32) -> bool
-    ensures { Decides result (Has (map T.StatesId.stated fields.now) (Some n)) }
+fn some_states<T: Identified<Option<i32>>>(fields: &[T], n: i32) -> bool
+    ensures { Decides result (Has (map T.Identified.id fields.now) (Some n)) }
 {
-    fields.iter().any(|field| field.stated_id() == Some(n))
+    fields.iter().any(|field| field.field_id() == Some(n))
 }

@@ -2,11 +2,11 @@
 ghost use Rattle.std.specs.Prelude.{◌≡◌, ◌+◌, map, length, pos, Decides, MatchOption};
 ghost use Rattle.numbering.specs.Ids.{Sequential, Highest};
 
-use crate::TellsId;
+use crate::Identified;
 
 // Whether the ids count up from 1000, by one from field to field.
-pub fn has_sequential_ids<T: TellsId>(fields: &[T]) -> bool
-    ensures { Decides result (Sequential (map T.TellsId.idOf fields.now)) }
+pub fn has_sequential_ids<T: Identified<i32>>(fields: &[T]) -> bool
+    ensures { Decides result (Sequential (map T.Identified.id fields.now)) }
 {
     fields
         .iter()
@@ -15,8 +15,8 @@ pub fn has_sequential_ids<T: TellsId>(fields: &[T]) -> bool
 }
 
 // The highest id, or none where there is no field.
-pub fn highest_field_id<T: TellsId>(fields: &[T]) -> Option<i32>
-    ensures { MatchOption result (length fields.now ≡ 0) (λ id. Highest (map T.TellsId.idOf fields.now) id) }
+pub fn highest_field_id<T: Identified<i32>>(fields: &[T]) -> Option<i32>
+    ensures { MatchOption result (length fields.now ≡ 0) (λ id. Highest (map T.Identified.id fields.now) id) }
 {
     fields.iter().map(|field| field.field_id()).max()
 }

@@ -5,7 +5,7 @@ ghost use Rattle.partitions.specs.Equals.{field_eq, FieldsAreEqualExactlyWhenThe
 ghost use Rattle.partitions.specs.EqualLaws.{field_eq_laws};
 
 use names::name::Name;
-use numbering::StatesId;
+use numbering::Identified;
 use transforms::transform::Transform;
 
 // A partition field as a draft keeps it: its id is stated or not.
@@ -58,10 +58,10 @@ impl PartialEq for UnboundPartitionField {
     }
 }
 
-impl StatesId for UnboundPartitionField {
-    ghost stated = { λ f. f.field_id };
+impl Identified<Option<i32>> for UnboundPartitionField {
+    ghost id = { λ f. f.field_id };
 
-    fn stated_id(&self) -> Option<i32> {
+    fn field_id(&self) -> Option<i32> {
         self.field_id
     }
 }

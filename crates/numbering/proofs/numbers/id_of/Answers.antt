@@ -14,7 +14,7 @@ by_field last draft field None (Some n) is e free = record { stated = λ m s. ab
 
 pub returns : goal.returns
 returns g c =
-    let draft = map g.T.StatesId.stated c.args.fields.now in
+    let draft = map g.T.Identified.id c.args.fields.now in
     let last = c.args.last in
     let fits : SFits w32 last = c.ranges.last in
-    by_field last draft _ _ _ c.stated_id.ensures c.or_else.ensures (λ e. search rules)
+    by_field last draft _ _ _ c.field_id.ensures c.or_else.ensures (λ e. search rules)

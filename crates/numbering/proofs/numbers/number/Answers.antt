@@ -11,7 +11,7 @@ use Rattle.numbering.proofs.numbers.number.Goals as goal
 pub returns-in_err-id : goal.returns-in_err-id
 returns-in_err-id g c =
     let fs : SFits w32 c.args.start = c.ranges.start in
-    let f = g.T.StatesId.stated in
+    let f = g.T.Identified.id in
     let draft = map f c.args.fields.now in
     let old = c.args.ids.now in
     let new = c.loop-index.ids in
@@ -29,7 +29,7 @@ returns-in_err-id g c =
 pub loop-index-preserved : goal.loop-index-preserved
 loop-index-preserved g c =
     let fs : SFits w32 c.args.start = c.ranges.start in
-    let f = g.T.StatesId.stated in
+    let f = g.T.Identified.id in
     let draft = map f c.args.fields.now in
     let old = c.args.ids.now in
     let new = c.loop-index.ids in
@@ -49,7 +49,7 @@ loop-index-preserved g c =
 pub returns : goal.returns
 returns g c =
     let fs : SFits w32 c.args.start = c.ranges.start in
-    let f = g.T.StatesId.stated in
+    let f = g.T.Identified.id in
     let draft = map f c.args.fields.now in
     let old = c.args.ids.now in
     let new = c.loop-index.ids in

@@ -3,4 +3,4 @@ use Rattle.numbering.proofs.Steps.{Turned}
 use Rattle.numbering.proofs.numbers.number.Given as goal
 
 abbrev pub invariant-loop-index : goal.invariant-loop-index
-invariant-loop-index g l = Turned l.start (map g.T.StatesId.stated l.fields) l.initial.ids l.ids l.index l.last
+invariant-loop-index g l = Turned l.start (map g.T.Identified.id l.fields) l.initial.ids l.ids l.index l.last

@@ -5,7 +5,7 @@ use Rattle.numbering.proofs.numbers.some_states.Goals as goal
 
 pub returns : goal.returns
 returns g c =
-    let f = g.T.StatesId.stated in
+    let f = g.T.Identified.id in
     let fs = c.args.fields.now in
     let n = c.args.n in
     let fits : SFits w32 n = c.ranges.n in

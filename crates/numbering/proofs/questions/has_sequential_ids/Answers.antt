@@ -5,7 +5,7 @@ use Rattle.numbering.proofs.questions.has_sequential_ids.Goals as goal
 
 pub returns : goal.returns
 returns g c =
-    let f = g.T.TellsId.idOf in
+    let f = g.T.Identified.id in
     let fs = c.args.fields.now in
     let kept : c.all.result ≡ true → (k : ℕ) → k < length fs → HoldsAt (λ x. f x ≡ pos (1000 + k)) fs k = search rules in
     let broken : c.all.result ≡ false → (k : ℕ) × (k < length fs) × HoldsAt (λ x. f x ≡ pos (1000 + k) → ⊥) fs k = search rules in
