@@ -1,13 +1,13 @@
 // Bound partition drafts: each field that is added suits the schema that is passed with it.
 ghost use Rattle.std.specs.Prelude.{◌≡◌, [], IfOk, None};
-ghost use Rattle.partitions.specs.Batches.{entries};
+ghost use Rattle.partitions.specs.Batches.{entries_of};
 ghost use Rattle.partitions.specs.Views.{seen};
 ghost use Rattle.drafts.specs.Calls.{Call, Step, Ran, Continues};
 ghost use Rattle.drafts.specs.Drafts.{paper, answer_of, batch_answer_of};
 ghost use Rattle.drafts.specs.Paper.{blank_paper};
 
 use crate::bound::OnSchema;
-use partitions::batch::{BatchFault, BatchField};
+use partitions::batch::{Batch, BatchFault};
 use partitions::fault::DraftFault;
 use partitions::field::FieldView;
 use partitions::fields::FieldList;
@@ -85,16 +85,15 @@ impl PartitionSpecBuilder {
         OnSchema { schema }.add_named(&mut self.fields, source_name, name, transform)
     }
 
-    // Adds the fields of a batch, whose names lie in `area`, all or none.
+    // Adds the fields of a batch, all or none.
     pub fn add_unbound_fields<S: Schema>(
         &mut self,
         schema: &S,
-        fields: &[BatchField],
-        area: &[u8],
+        batch: &Batch<'_>,
     ) -> Result<(), BatchFault>
-        ensures step { Step (paper self.old) (Call.add_batch (S.Schema.columns schema.now) (entries area.now fields.now)) (batch_answer_of result) (paper self.new) }
-        ensures history { Continues (paper self.old) (Call.add_batch (S.Schema.columns schema.now) (entries area.now fields.now)) (batch_answer_of result) (paper self.new) }
+        ensures step { Step (paper self.old) (Call.add_batch (S.Schema.columns schema.now) (entries_of batch.now)) (batch_answer_of result) (paper self.new) }
+        ensures history { Continues (paper self.old) (Call.add_batch (S.Schema.columns schema.now) (entries_of batch.now)) (batch_answer_of result) (paper self.new) }
     {
-        self.fields.add_all(&OnSchema { schema }, fields, area)
+        self.fields.add_all(&OnSchema { schema }, batch)
     }
 }

@@ -2,7 +2,7 @@
 use crate::builder::PartitionSpecBuilder;
 use faults::Fault;
 use names::name::NamePlace;
-use partitions::batch::BatchField;
+use partitions::batch::{Batch, BatchField};
 use partitions::fault::DraftFault;
 use partitions::field::FieldView;
 use partitions::spec::UnboundPartitionSpec;
@@ -59,6 +59,13 @@ fn field<'a>(source_id: i32, name: &'a [u8], transform: Transform) -> FieldView<
         field_id: None,
         name,
         transform,
+    }
+}
+
+fn batch<'a>(fields: &'a [BatchField]) -> Batch<'a> {
+    Batch {
+        fields,
+        area: b"dayframe",
     }
 }
 
@@ -143,7 +150,7 @@ fn a_batch_is_added_whole_or_not_at_all(rt: HostRuntime) -> Result<(), Fail> {
         },
         transform: Transform::Identity,
     };
-    match draft.add_unbound_fields(&table, &[day, frame], b"dayframe") {
+    match draft.add_unbound_fields(&table, &batch(&[day, frame])) {
         Ok(()) => assert!(rt; false),
         Err(fault) => {
             assert_eq!(rt; fault.number(), 33);
@@ -151,11 +158,7 @@ fn a_batch_is_added_whole_or_not_at_all(rt: HostRuntime) -> Result<(), Fail> {
         }
     }
     assert_eq!(rt; draft.fields().len(), 0);
-    assert!(rt;
-        draft
-            .add_unbound_fields(&table, &[day], b"dayframe")
-            .is_ok()
-    );
+    assert!(rt; draft.add_unbound_fields(&table, &batch(&[day])).is_ok());
     assert_eq!(rt; draft.fields().len(), 1);
     Ok(())
 }

@@ -9,6 +9,7 @@ use Rattle.partitions.specs.BatchFaults.{cause_told, batch_told}
 use Rattle.partitions.specs.Fields.{PaperField, field_of}
 use Rattle.partitions.specs.declared.batch.BatchCause.{BatchCause}
 use Rattle.partitions.specs.declared.batch.BatchFault.{BatchFault}
+use Rattle.partitions.specs.declared.batch.Batch.{Batch}
 use Rattle.partitions.specs.declared.batch.BatchField.{BatchField}
 
 -- a field of the batch, or none where its name's place is outside the area
@@ -17,6 +18,9 @@ entry area b = option_map (λ name. field_of b.source_id b.field_id name b.trans
 
 abbrev pub entries : List ℕ → List BatchField → List (Option PaperField)
 entries area bs = map (entry area) bs
+
+abbrev pub entries_of : Batch → List (Option PaperField)
+entries_of b = entries b.area.now b.fields.now
 
 -- the fields that entries give
 abbrev pub given : List (Option PaperField) → List PaperField

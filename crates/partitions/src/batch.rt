@@ -22,6 +22,13 @@ pub struct BatchField {
     pub transform: Transform,
 }
 
+// A batch: its fields, and the area that their names lie in.
+#[derive(Clone, Copy)]
+pub struct Batch<'a> {
+    pub fields: &'a [BatchField],
+    pub area: &'a [u8],
+}
+
 impl BatchField {
     // The field, with its name from the area; None where the name's place passes the area's end.
     pub fn view<'a>(&self, area: &'a [u8]) -> Option<FieldView<'a>>

@@ -2,11 +2,11 @@
 ghost use Rattle.std.specs.Prelude.{◌≡◌, IfOk, Some};
 ghost use Rattle.partitions.specs.Adds.{Adds};
 ghost use Rattle.partitions.specs.AddRules.{add_rules};
-ghost use Rattle.partitions.specs.Batches.{entries, AddsAll};
+ghost use Rattle.partitions.specs.Batches.{entries_of, AddsAll};
 ghost use Rattle.partitions.specs.Views.{seen};
 ghost use Rattle.partitions.specs.Specs.{paper_draft, paper_spec, blank};
 
-use crate::batch::{BatchFault, BatchField};
+use crate::batch::{Batch, BatchFault};
 use crate::fault::DraftFault;
 use crate::field::FieldView;
 use crate::spec::UnboundPartitionSpec;
@@ -42,16 +42,12 @@ impl UnboundPartitionSpecBuilder {
         self.spec.add_partition_field(field)
     }
 
-    // Adds the fields of a batch, whose names lie in `area`, all or none.
-    pub fn add_partition_fields(
-        &mut self,
-        fields: &[BatchField],
-        area: &[u8],
-    ) -> Result<(), BatchFault>
-        ensures fields { AddsAll add_rules (paper_draft self.old).fields (entries area.now fields.now) result (paper_draft self.new).fields }
+    // Adds the fields of a batch, all or none.
+    pub fn add_partition_fields(&mut self, batch: &Batch<'_>) -> Result<(), BatchFault>
+        ensures fields { AddsAll add_rules (paper_draft self.old).fields (entries_of batch.now) result (paper_draft self.new).fields }
         ensures spec_id { (paper_draft self.new).spec_id ≡ (paper_draft self.old).spec_id }
     {
-        self.spec.fields.add_all(&Unbound, fields, area)
+        self.spec.fields.add_all(&Unbound, batch)
     }
 
     // What a draft holds is always a spec.

@@ -72,7 +72,10 @@ impl Batch {
         if let Some(refusal) = self.refused {
             return Err(refusal);
         }
-        draft.add_partition_fields(self.fields.as_slice(), self.names.as_slice())?;
+        draft.add_partition_fields(&partitions::batch::Batch {
+            fields: self.fields.as_slice(),
+            area: self.names.as_slice(),
+        })?;
         Ok(Answer::Done)
     }
 }

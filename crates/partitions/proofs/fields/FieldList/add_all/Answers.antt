@@ -5,13 +5,13 @@ use Rattle.partitions.proofs.fields.FieldList.add_all.Goals as goal
 
 pub returns-in-Err : goal.returns-in-Err
 returns-in-Err g c =
-    put_back (g.A.Adding.rules c.args.adding.now) (listed c.args.self.now) c.args.area.now c.args.batch.now c.loop-index.index (listed c.loop-index.self) c.loop-index.invariant c.loop-index-test.true
+    put_back (g.A.Adding.rules c.args.adding.now) (listed c.args.self.now) c.args.batch.now.area.now c.args.batch.now.fields.now c.loop-index.index (listed c.loop-index.self) c.loop-index.invariant c.loop-index-test.true
     c.in-Err.cause (listed c.add_entry.new.self) (listed c.truncate.new.self) c.field_count-count.result c.in-Err.ensures c.field_count-count.ensures c.truncate.ensures
 
 pub loop-index-preserved : goal.loop-index-preserved
 loop-index-preserved g c =
-    next_added (g.A.Adding.rules c.args.adding.now) (listed c.args.self.now) c.args.area.now c.args.batch.now c.loop-index.index (listed c.loop-index.self) c.loop-index.invariant c.loop-index-test.true
+    next_added (g.A.Adding.rules c.args.adding.now) (listed c.args.self.now) c.args.batch.now.area.now c.args.batch.now.fields.now c.loop-index.index (listed c.loop-index.self) c.loop-index.invariant c.loop-index-test.true
     (listed c.add_entry.new.self) c.in_default.ensures
 
 pub returns : goal.returns
-returns g c = whole_added (g.A.Adding.rules c.args.adding.now) (listed c.args.self.now) c.args.area.now c.args.batch.now c.loop-index.index (listed c.loop-index.self) c.loop-index.invariant c.loop-index-test.false
+returns g c = whole_added (g.A.Adding.rules c.args.adding.now) (listed c.args.self.now) c.args.batch.now.area.now c.args.batch.now.fields.now c.loop-index.index (listed c.loop-index.self) c.loop-index.invariant c.loop-index-test.false

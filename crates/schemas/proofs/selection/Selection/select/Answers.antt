@@ -6,5 +6,5 @@ use Rattle.schemas.proofs.selection.Selection.select.Goals as goal
 pub invariant_of-self : goal.invariant_of-self
 invariant_of-self g c = record {
   distinct = distinct_pushed c.args.self.now.ids c.as_slice.result.now c.push.new.self (to_z w32 (of_z w32 c.args.id)) c.push.result
-      c.args.self.now.distinct c.as_slice.ensures.value (search rules) c.push.ensures
+      c.args.self.now.distinct c.as_slice.ensures.value (search rules) c.push.ensures;
 }
