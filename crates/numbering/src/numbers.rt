@@ -21,6 +21,7 @@ pub fn number<T: Identified<Option<i32>>>(
         return Err(NumberFault::Short);
     }
     let mut last = start;
+    // kept: tried, and the proof did not close: of what is written through a zip with `ids.iter_mut()` nothing is known
     for (index, field) in fields.iter().enumerate() {
         let id = id_of(fields, field, last).ok_or(NumberFault::NoNumber { index })?;
         ids[index] = id;
