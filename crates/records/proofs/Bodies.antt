@@ -56,12 +56,12 @@ pub measured_none : (fs : List PaperField) → Measured fs 0 0
 measured_none fs = record { is = ap length (sym (fields_none fs)); short = omega arith; each = tt }
 
 module _ (fs : List PaperField) (i len n : ℕ) (f : PaperField) (inside : i < length fs) (next : Some f ≡ slice_get fs i) where
-  pub measured_more : (longer : ℕ) → longer ≡ len + n → n ≡ length (entry_bytes (entry_of f)) → n ≤ 159 → FieldFits f → Measured fs i len → Measured fs (i + 1) longer
-  measured_more longer sum size short fits m = record {
+  pub measured_more : (j longer : ℕ) → j ≡ i + 1 → longer ≡ len + n → n ≡ length (entry_bytes (entry_of f)) → n ≤ 159 → FieldFits f → Measured fs i len → Measured fs j longer
+  measured_more j longer one sum size short fits m = subst (λ k. Measured fs k longer) (sym one) (record {
     is = omega (arith, length_more fs i f inside next, m.is);
     short = omega (arith, m.short);
     each = fits_more fs i f inside next m.each fits;
-  }
+  })
 
 pub measured_all : (fs : List PaperField) (i len : ℕ) → length fs ≤ i → Measured fs i len → (len ≡ length (field_bytes fs)) × AllByRecursion FieldFits fs
 measured_all fs i len past m =
@@ -106,15 +106,15 @@ module _ (fs : List PaperField) (i at : ℕ) (was out : List ℕ) (f : PaperFiel
       let rest = length-drop at was in
       record { start = omega arith; rest = omega arith; end = omega arith; most = omega arith }
 
-  pub laid_more : (lent after : List ℕ) (n end : ℕ) → end ≡ at + n → after ≡ put_mid at (length out - at) out lent → n ≡ length (entry_bytes (entry_of f))
-      → lent ≡ entry_bytes (entry_of f) ++ drop (length (entry_bytes (entry_of f))) (take (length out - at) (drop at out)) → Laid fs (i + 1) end was after
-  laid_more lent after n end sum back size put = record {
+  pub laid_more : (j : ℕ) → j ≡ i + 1 → (lent after : List ℕ) (n end : ℕ) → end ≡ at + n → after ≡ put_mid at (length out - at) out lent → n ≡ length (entry_bytes (entry_of f))
+      → lent ≡ entry_bytes (entry_of f) ++ drop (length (entry_bytes (entry_of f))) (take (length out - at) (drop at out)) → Laid fs j end was after
+  laid_more j one lent after n end sum back size put = subst (λ k. Laid fs k end was after) (sym one) (record {
     end = omega (arith, length_more fs i f inside next, l.end);
     is = back
         ∙ lent_more (field_bytes (take i fs)) (entry_bytes (entry_of f)) was out lent at l.end l.is put
         ∙ (λ k. sym (bytes_more fs i f inside next) k ++ drop (at + sym size k) was)
         ∙ ap (λ k. field_bytes (take (i + 1) fs) ++ drop k was) (sym sum);
-  }
+  })
 
 pub laid_all : (fs : List PaperField) (i at : ℕ) (was out : List ℕ) → length fs ≤ i → Laid fs i at was out → (at ≡ length (field_bytes fs)) × (out ≡ field_bytes fs ++ drop at was)
 laid_all fs i at was out past l =

@@ -2,3 +2,4 @@ pub mod Unique
 pub mod Puts
 pub mod Bodies
 pub mod Records
+pub mod Taken

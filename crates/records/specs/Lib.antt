@@ -3,3 +3,4 @@ pub mod RecordFaults
 pub mod Written
 pub mod SameRecord
 pub mod Worked
+pub mod Left

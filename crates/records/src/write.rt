@@ -41,10 +41,8 @@ fn put_entries<R: Recorded>(plan: &R, out: &mut [u8]) -> usize
     ensures after { out.new ≡ field_bytes (R.Recorded.plan plan.now).fields ++ drop result out.old }
 {
     let mut at = 0;
-    for index in 0..plan.entry_count() {
-        if let Some(field) = plan.entry_at(index) {
-            at += put_entry(&field, &mut out[at..]);
-        }
+    for field in plan.entries() {
+        at += put_entry(&field, &mut out[at..]);
     }
     at
 }
@@ -68,10 +66,8 @@ fn body_len<R: Recorded>(plan: &R) -> usize
     ensures buildable { Buildable (R.Recorded.plan plan.now).fields }
 {
     let mut len = 0;
-    for index in 0..plan.entry_count() {
-        if let Some(field) = plan.entry_at(index) {
-            len += entry_len(&field);
-        }
+    for field in plan.entries() {
+        len += entry_len(&field);
     }
     len
 }

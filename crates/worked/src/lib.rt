@@ -5,11 +5,9 @@ ghost use Rattle.worked.specs.TextExamples.{SixteenInOtherWords, FirstWrongPlace
 ghost use Rattle.worked.specs.SortExamples.{ZeroIsTheUnsortedOrder, SortedByWhatIsPrimitive};
 
 // Every plan worked by hand is what the rules give.
-pub fn worked_examples_stand() -> u8
+pub fn worked_examples_stand()
     ensures sixteen { SixteenInOtherWords }
     ensures wrong_place { FirstWrongPlaceDecides }
     ensures zero { ZeroIsTheUnsortedOrder }
     ensures primitive { SortedByWhatIsPrimitive }
-{
-    0
-}
+{}

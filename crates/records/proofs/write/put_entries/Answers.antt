@@ -1,43 +1,51 @@
 -- Each turn lends the rest of the output to one entry.
-use Rattle.std.proofs.Common.{length, ap, ◌∙◌, arith}
+use Rattle.std.proofs.Common.{◌≡◌, ◌+◌, suc, [], ◌∷◌, ◌++◌, length, drop, sym, refl, ap, ◌∙◌, arith}
 use Rattle.std.proofs.lemmas.List.{length-drop, take_rest}
-use Rattle.partitions.proofs.Finding.{no_gap}
 use Rattle.partitions.specs.Views.{paper_field}
-use Rattle.records.proofs.Bodies.{Room, laid_none, within, laid_more, laid_all}
-use Rattle.records.proofs.write.put_entries.Given as given
+use Rattle.records.specs.Left.{entries_left}
+use Rattle.records.proofs.Bodies.{laid_none, within, laid_more, laid_all}
+use Rattle.records.proofs.Taken.{taken, all_taken, one_more}
 use Rattle.records.proofs.write.put_entries.Goals as goal
-use Rattle.records.proofs.write.put_entries.Goals.{In-Some, in-Some, in_default}
+use Rattle.records.proofs.write.put_entries.Goals.{In-Some}
 
-pub loop-index-init : goal.loop-index-init
-loop-index-init g c = laid_none (g.R.Recorded.plan c.args.plan.now).fields c.args.out.now
-
-module _ (g : given.Over) (c : In-Some g) where
-  room : Room (g.R.Recorded.plan c.args.plan.now).fields c.loop-index.at c.loop-index.out (paper_field c.in-Some.field)
-  room = within (g.R.Recorded.plan c.args.plan.now).fields c.loop-index.index c.loop-index.at c.args.out.now c.loop-index.out (paper_field c.in-Some.field) (omega arith) c.in-Some.ensures c.requires c.loop-index.invariant
-
-pub slice_bounds-put_entry-count : goal.slice_bounds-put_entry-count
-slice_bounds-put_entry-count g c = (room g (goal.at.slice_bounds-put_entry-count g c).In-Some).start
-
-pub slice_bounds-put_entry-start : goal.slice_bounds-put_entry-start
-slice_bounds-put_entry-start g c = let w = room g (goal.at.slice_bounds-put_entry-start g c).In-Some in omega arith
+pub loop-field-init : goal.loop-field-init
+loop-field-init g c =
+    let it = c.entries-field-items.result in
+    let e : c.into_iter-field-iterator.result ≡ it = c.into_iter-field-iterator.ensures.into_iter_gives in (
+      tt,
+      tt,
+      ap (λ s. entries_left (g.R.Recorded.plan s.plan.now) s.places.start s.places.end) e
+          ∙ ap (λ p. entries_left (g.R.Recorded.plan p) it.places.start it.places.end) c.entries-field-items.ensures.of
+          ∙ c.entries-field-items.ensures.all,
+      laid_none (g.R.Recorded.plan c.args.plan.now).fields c.args.out.now,
+    )
 
 pub put_entry-at-requires : goal.put_entry-at-requires
 put_entry-at-requires g c =
-    let w = room g (goal.at.put_entry-at-requires g c).In-Some in
-    let rest = ap length (take_rest c.loop-index.out c.loop-index.at) ∙ length-drop c.loop-index.at c.loop-index.out in
+    let fs = (g.R.Recorded.plan c.args.plan.now).fields in
+    let k = length c.loop-field.yielded in
+    let p = taken fs k (paper_field c.in-Some.field) _ (sym c.loop-field.invariant.2 ∙ c.in-Some.ensures.steps) in
+    let w = within fs k c.loop-field.at c.args.out.now c.loop-field.out (paper_field c.in-Some.field) p.inside p.next c.requires c.loop-field.invariant.3 in
+    let rest = ap length (take_rest c.loop-field.out c.loop-field.at) ∙ length-drop c.loop-field.at c.loop-field.out in
     omega arith
 
-pub overflow_add-at : goal.overflow_add-at
-overflow_add-at g c = let w = room g (goal.at.overflow_add-at g c).In-Some in omega arith
-
-pub loop-index-preserved : goal.loop-index-preserved
-loop-index-preserved g c = elim c.match-entry_at.branch [
-  | in-Some w ↦ laid_more (g.R.Recorded.plan c.args.plan.now).fields c.loop-index.index c.loop-index.at c.args.out.now c.loop-index.out (paper_field w.in-Some.field) (omega arith) w.in-Some.ensures c.requires c.loop-index.invariant
-      w.put_entry-at.new.out c.match-entry_at.out w.put_entry-at.result c.match-entry_at.at w.at-is w.out-is w.put_entry-at.ensures.len w.put_entry-at.ensures.after
-  | in_default w ↦ absurd (no_gap (g.R.Recorded.plan c.args.plan.now).fields c.loop-index.index (omega arith) w.in_default.ensures)
-]
+pub loop-field-preserved : goal.loop-field-preserved
+loop-field-preserved g c =
+    let fs = (g.R.Recorded.plan c.args.plan.now).fields in
+    let k = length c.loop-field.yielded in
+    let p = taken fs k (paper_field c.in-Some.field) _ (sym c.loop-field.invariant.2 ∙ c.in-Some.ensures.steps) in
+    let many : length (c.loop-field.yielded ++ c.in-Some.field ∷ []) ≡ k + 1 = one_more c.loop-field.yielded c.in-Some.field in
+    let same : suc k ≡ length (c.loop-field.yielded ++ c.in-Some.field ∷ []) = omega arith in (
+      tt,
+      tt,
+      p.is ∙ ap (λ n. drop n fs) same,
+      laid_more fs k c.loop-field.at c.args.out.now c.loop-field.out (paper_field c.in-Some.field) p.inside p.next c.requires c.loop-field.invariant.3 _ many c.put_entry-at.new.out _
+          c.put_entry-at.result _ refl refl c.put_entry-at.ensures.len c.put_entry-at.ensures.after,
+    )
 
 pub returns : goal.returns
 returns g c =
-    let all = laid_all (g.R.Recorded.plan c.args.plan.now).fields c.loop-index.index c.loop-index.at c.args.out.now c.loop-index.out (omega arith) c.loop-index.invariant in
+    let fs = (g.R.Recorded.plan c.args.plan.now).fields in
+    let end = all_taken fs (length c.loop-field.yielded) (sym c.loop-field.invariant.2 ∙ c.in-None.ensures.steps.0) in
+    let all = laid_all fs (length c.loop-field.yielded) c.loop-field.at c.args.out.now c.loop-field.out end c.loop-field.invariant.3 in
     record { len = all.0; after = all.1 }
