@@ -77,7 +77,7 @@ impl Command {
         if first.starts_with('#') {
             return Ok(None);
         }
-        let verb = Verb::read(first).ok_or(ScriptFault::BadCommand)?;
+        let verb: Verb = first.parse()?;
         let command = match verb {
             Verb::Column | Verb::Columns | Verb::Regular | Verb::Sheet | Verb::Select => {
                 of_columns(heap, verb, rest)?

@@ -1,6 +1,9 @@
 // The first words of commands.
-ghost use Rattle.std.specs.Prelude.{◌≡◌, MatchOption};
+ghost use Rattle.std.specs.Prelude.{◌≡◌, MatchResult};
 ghost use Rattle.commands.specs.Words.{word_of, NoVerb};
+
+use crate::fault::ScriptFault;
+use std::str::FromStr;
 
 #[derive(Clone, Copy)]
 pub enum Verb {
@@ -130,11 +133,16 @@ impl Verb {
             Verb::SortBuildUnbound => "sort-build-unbound",
         }
     }
+}
 
-    // The verb that a word is, if it is one.
-    pub fn read(word: &str) -> Option<Verb>
-        ensures { MatchOption result (NoVerb word.now) (λ verb. word_of verb ≡ word.now) }
-    {
-        VERBS.iter().find(|verb| verb.word() == word).copied()
+// The verb that a word is, if it is one.
+impl FromStr for Verb {
+    type Err = ScriptFault;
+
+    ghost from_str_gives = { λ word r. MatchResult r (λ verb. word_of verb ≡ word) (λ _. NoVerb word) };
+
+    fn from_str(word: &str) -> Result<Verb, ScriptFault> {
+        let verb = VERBS.iter().find(|verb| verb.word() == word).copied();
+        verb.ok_or(ScriptFault::BadCommand)
     }
 }

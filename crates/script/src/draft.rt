@@ -1,5 +1,5 @@
 // The unbound draft of a script, and a batch whose lines are still due.
-use crate::lines::unbound_line;
+use crate::lines::Line;
 use commands::command::FieldLine;
 use commands::fault::ScriptFault;
 use faults::refusal::Refusal;
@@ -100,6 +100,6 @@ pub fn close(
     draft: UnboundPartitionSpecBuilder,
 ) -> Result<(UnboundPartitionSpec, Answer), ScriptFault> {
     let spec = draft.build();
-    let line = unbound_line(heap, &spec)?;
+    let line = format!(in heap; "{}", Line(&spec))?;
     Ok((spec, Answer::Line(line)))
 }

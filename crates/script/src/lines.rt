@@ -1,102 +1,112 @@
-// Specs, orders and records as lines.
+// Specs and orders as lines.
 use partitions::field::UnboundPartitionField;
 use partitions::spec::UnboundPartitionSpec;
 use sorts::sort::{NullOrder, SortDirection, SortField, SortOrder};
-use std::alloc::{AllocError, Global};
-use std::fmt::Write;
+use std::fmt;
 
-// `unbound ID: SOURCE ID NAME TRANSFORM; ..`
-pub fn unbound_line(heap: Global, spec: &UnboundPartitionSpec) -> Result<String, AllocError> {
-    let mut line = String::from_str(heap, "unbound ")?;
-    put_maybe(&mut line, spec.spec_id())?;
-    put_all(&mut line, spec.fields(), put_field)?;
-    Ok(line)
+// What stands in a line in words of its own.
+pub trait Written {
+    fn write<W: fmt::Write>(&self, f: &mut fmt::Formatter<W>) -> fmt::Result;
 }
 
-// `order ID: SOURCE TRANSFORM asc first; ..`
-pub fn order_line(heap: Global, order: &SortOrder) -> Result<String, AllocError> {
-    let order_id = order.order_id();
-    let mut line = format!(in heap; "order {order_id}")?;
-    put_all(&mut line, order.fields(), put_sort_field)?;
-    Ok(line)
-}
+// A thing, printed as it is written in a line.
+#[derive(Drop)]
+pub struct Line<'a, T>(pub &'a T);
 
-// A colon, and the items with semicolons between them.
-fn put_all<T, F: Fn(&mut String, &T) -> Result<(), AllocError>>(
-    line: &mut String,
-    items: &[T],
-    put: F,
-) -> Result<(), AllocError>
-    requires { F.IsAlwaysCallable put }
-{
-    line.push_str(":")?;
-    for (place, item) in items.iter().enumerate() {
-        if place > 0 {
-            line.push_str(";")?;
-        }
-        put(line, item)?;
+impl<T: Written> fmt::Display for Line<'_, T> {
+    fn fmt<W: fmt::Write>(&self, f: &mut fmt::Formatter<W>) -> fmt::Result {
+        self.0.write(f)
     }
-    Ok(())
-}
-
-fn put_field(line: &mut String, field: &UnboundPartitionField) -> Result<(), AllocError> {
-    let source_id = field.source_id;
-    write!(line, " {source_id} ")?;
-    put_maybe(line, field.field_id)?;
-    line.push_str(" ")?;
-    put_name(line, field.name.as_bytes())?;
-    let transform = field.transform;
-    write!(line, " {transform}")?;
-    Ok(())
-}
-
-fn put_sort_field(line: &mut String, field: &SortField) -> Result<(), AllocError> {
-    let source_id = field.source_id;
-    let transform = field.transform;
-    let direction = match field.direction {
-        SortDirection::Ascending => "asc",
-        SortDirection::Descending => "desc",
-    };
-    let nulls = match field.null_order {
-        NullOrder::First => "first",
-        NullOrder::Last => "last",
-    };
-    write!(line, " {source_id} {transform} {direction} {nulls}")?;
-    Ok(())
 }
 
 // A number, or `-` for none.
-pub fn put_maybe(line: &mut String, id: Option<i32>) -> Result<(), AllocError> {
-    match id {
-        Some(id) => write!(line, "{id}")?,
-        None => line.push_str("-")?,
+impl Written for Option<i32> {
+    fn write<W: fmt::Write>(&self, f: &mut fmt::Formatter<W>) -> fmt::Result {
+        match self {
+            Some(id) => write!(f, "{id}"),
+            None => f.write_str("-"),
+        }
+    }
+}
+
+// `unbound ID: SOURCE ID NAME TRANSFORM; ..`
+impl Written for UnboundPartitionSpec {
+    fn write<W: fmt::Write>(&self, f: &mut fmt::Formatter<W>) -> fmt::Result {
+        f.write_str("unbound ")?;
+        self.spec_id().write(f)?;
+        write_all(self.fields(), f)
+    }
+}
+
+impl Written for UnboundPartitionField {
+    fn write<W: fmt::Write>(&self, f: &mut fmt::Formatter<W>) -> fmt::Result {
+        write!(f, "{} ", self.source_id)?;
+        self.field_id.write(f)?;
+        f.write_str(" ")?;
+        write_name(self.name.as_bytes(), f)?;
+        write!(f, " {}", self.transform)
+    }
+}
+
+// `order ID: SOURCE TRANSFORM asc first; ..`
+impl Written for SortOrder {
+    fn write<W: fmt::Write>(&self, f: &mut fmt::Formatter<W>) -> fmt::Result {
+        write!(f, "order {}", self.order_id())?;
+        write_all(self.fields(), f)
+    }
+}
+
+impl Written for SortField {
+    fn write<W: fmt::Write>(&self, f: &mut fmt::Formatter<W>) -> fmt::Result {
+        let direction = match self.direction {
+            SortDirection::Ascending => "asc",
+            SortDirection::Descending => "desc",
+        };
+        let nulls = match self.null_order {
+            NullOrder::First => "first",
+            NullOrder::Last => "last",
+        };
+        write!(
+            f,
+            "{} {} {direction} {nulls}",
+            self.source_id,
+            self.transform
+        )
+    }
+}
+
+// A colon, and the items with semicolons between them.
+fn write_all<T: Written, W: fmt::Write>(items: &[T], f: &mut fmt::Formatter<W>) -> fmt::Result {
+    f.write_str(":")?;
+    for (place, item) in items.iter().enumerate() {
+        f.write_str(if place == 0 { " " } else { "; " })?;
+        item.write(f)?;
     }
     Ok(())
 }
 
 // A name that is a bare word as it is, and any other as `x:` and hexadecimal digits.
-pub fn put_name(line: &mut String, name: &[u8]) -> Result<(), AllocError> {
+fn write_name<W: fmt::Write>(name: &[u8], f: &mut fmt::Formatter<W>) -> fmt::Result {
     if !is_bare(name) {
-        line.push_str("x:")?;
-        return put_hex(line, name);
+        return write_hex(name, f);
     }
     for b in name {
-        line.push(*b as char)?;
+        f.write_char(*b as char)?;
     }
     Ok(())
 }
 
 fn is_bare(name: &[u8]) -> bool {
     !name.is_empty()
-        && name.iter().all(
-            |b| matches!(*b, b'A'..=b'Z' | b'a'..=b'z' | b'0'..=b'9' | b'_' | b'.' | b'-'),
-        )
+        && name
+            .iter()
+            .all(|b| matches!(*b, b'A'..=b'Z' | b'a'..=b'z' | b'0'..=b'9' | b'_' | b'.' | b'-'))
 }
 
-pub fn put_hex(line: &mut String, bytes: &[u8]) -> Result<(), AllocError> {
+fn write_hex<W: fmt::Write>(bytes: &[u8], f: &mut fmt::Formatter<W>) -> fmt::Result {
+    f.write_str("x:")?;
     for b in bytes {
-        let b = *b;
-        write!(line, "{b:02x}")?;
+        write!(f, "{b:02x}")?;
     }
     Ok(())
 }

@@ -1,6 +1,6 @@
 // The sort draft of a script.
 use crate::columns::{Columns, Question};
-use crate::lines::order_line;
+use crate::lines::Line;
 use commands::command::SortLine;
 use commands::fault::ScriptFault;
 use faults::refusal::Refusal;
@@ -45,7 +45,7 @@ impl Sorting {
     pub fn build_unbound(&self, heap: Global) -> Result<Answer, ScriptFault> {
         let mut order = SortOrder::new(heap)?;
         self.draft.build_unbound(&mut order).map_err(Refusal::from)?;
-        Ok(Answer::Line(order_line(heap, &order)?))
+        Ok(Answer::Line(format!(in heap; "{}", Line(&order))?))
     }
 
     pub fn build(&self, heap: Global, columns: &Columns) -> Result<Answer, ScriptFault> {
@@ -61,6 +61,6 @@ impl Question for Build<'_> {
     fn ask<S: Schema>(&self, schema: &S) -> Result<Answer, ScriptFault> {
         let mut order = SortOrder::new(self.heap)?;
         self.draft.build(schema, &mut order).map_err(Refusal::from)?;
-        Ok(Answer::Line(order_line(self.heap, &order)?))
+        Ok(Answer::Line(format!(in self.heap; "{}", Line(&order))?))
     }
 }

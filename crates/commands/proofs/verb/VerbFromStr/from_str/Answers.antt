@@ -5,7 +5,7 @@ use borrow.Author.Tests.{tests}
 use Rattle.commands.specs.declared.verb.TheConstants.{VERBS}
 use Rattle.commands.specs.Words.{word_of}
 use Rattle.commands.proofs.Verbs.{found}
-use Rattle.commands.proofs.verb.Verb.read.Goals as goal
+use Rattle.commands.proofs.verb.VerbFromStr.from_str.Goals as goal
 
 pub returns : goal.returns
 returns c =
