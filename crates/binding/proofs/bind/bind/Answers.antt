@@ -23,7 +23,7 @@ returns-in_err-draft g c =
     let fault = c.in_err-draft.field-0.0 in
     let p = err_from_is_err_and c.from_residual.result c.from_residual.ensures.1 in
     let w = exit columns s c.args.spec.now c.args.spec.now c.from_residual.result p.0 (Batch fault) p.1 p.2
-        (batch_refused columns s (buildable_listed c.args.unbound.fields) c.args.spec.now c.args.spec.now fault c.in_err-draft.ensures.step refl) in
+    (batch_refused columns s (buildable_listed c.args.unbound.fields) c.args.spec.now c.args.spec.now fault c.in_err-draft.ensures.step refl) in
     record { answer = w.answer; back = w.back; read_back = w.read_back; fit = w.fit }
 
 pub returns : goal.returns
@@ -39,6 +39,6 @@ returns-in_err-build g c =
     let fault = c.in_err-build.field-0.0 in
     let p = err_from_is_err_and c.from_residual-in_err-build.result c.from_residual-in_err-build.ensures.1 in
     let w = exit columns s c.args.spec.now c.build.new.spec c.from_residual-in_err-build.result p.0 (Draft fault) p.1 p.2
-        (not_closed columns s (buildable_listed c.args.unbound.fields) c.args.spec.now c.build.new.spec
-        (paper c.in_ok-draft.draft) c.in_ok-draft.ensures.fields c.in_ok-draft.ensures.step fault c.in_err-build.ensures.closes c.in_err-build.ensures.laws) in
+    (not_closed columns s (buildable_listed c.args.unbound.fields) c.args.spec.now c.build.new.spec
+    (paper c.in_ok-draft.draft) c.in_ok-draft.ensures.fields c.in_ok-draft.ensures.step fault c.in_err-build.ensures.closes c.in_err-build.ensures.laws) in
     record { answer = w.answer; back = w.back; read_back = w.read_back; fit = w.fit }
