@@ -24,9 +24,7 @@ impl PartitionSpec {
     {
         let fields = fields.as_slice();
         let mut ids = [0i32; MAX_FIELDS];
-        if let Err(_) = number(start, fields, &mut ids) {
-            return Err(DraftFault::NoNumber);
-        }
+        number(start, fields, &mut ids).map_err(|_| DraftFault::NoNumber)?;
         fill(&mut self.fields, fields, &ids);
         self.spec_id = spec_id;
         Ok(())

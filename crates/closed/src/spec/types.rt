@@ -64,11 +64,11 @@ fn write_types<S: Schema>(schema: &S, fields: &[PartitionField], into: &mut [Typ
 fn type_of<S: Schema>(schema: &S, field: &PartitionField) -> Result<Type, TypeFault>
     ensures { MatchResult result (λ made. result_on (S.Schema.columns schema.now) (opened field.now) ≡ Some made) (λ fault. FirstBroken (field_rules (S.Schema.columns schema.now) (opened field.now)) (told fault)) }
 {
-    let Some(column) = schema.field_by_id(field.source_id) else {
-        return Err(TypeFault::SourceUnknown);
-    };
-    match field.transform.result_type(&column.field_type) {
-        Ok(result) => Ok(result),
-        Err(fault) => Err(TypeFault::NoResult(fault)),
-    }
+    let column = schema
+        .field_by_id(field.source_id)
+        .ok_or(TypeFault::SourceUnknown)?;
+    field
+        .transform
+        .result_type(&column.field_type)
+        .map_err(TypeFault::NoResult)
 }
