@@ -1,7 +1,8 @@
 -- Closing: the fields that are filled in one by one, and the laws at each way that it can end. Assumes nothing.
-use Rattle.std.proofs.Common.{◌≡◌, ℕ, ◌≤◌, List, map, length, take, ℤ, Some, Ok, Err, Option, sym, refl, ap, ◌∙◌, subst, arith}
+use Rattle.std.proofs.Common.{◌≡◌, ℕ, ◌≤◌, List, map, length, take, ℤ, Some, Ok, Err, Result, is_ok, MatchResult, true, false, Option, sym, refl, ap, ◌∙◌, subst, arith}
 use mathlib.Core.List.{map-map}
 use Rattle.std.proofs.lemmas.List.{length-map}
+use Rattle.std.proofs.lemmas.Bool.{false≢true}
 use Rattle.numbering.specs.Numbering.{Numbering, Stuck}
 use Rattle.numbering.specs.Outcome.{Refused}
 use Rattle.numbering.specs.declared.NumberFault.{NumberFault}
@@ -76,3 +77,12 @@ module _ (start : ℤ) (draft closed : List PaperField) (ids : List ℤ) where
         sources = sources_kept closed draft c.same b.sources;
         ids = distinct_apart closed ids c.state (numbered_distinct start (stateds draft) ids (stated_once draft b.ids) c.numbering);
       }
+
+-- an answer whose variant is known
+pub refused_of : {T E : Type 0} (P : T → Type 0) {Q : E → Type 0} (r : Result T E) → false ≡ is_ok r → MatchResult r P Q → (e : E) × Q e
+refused_of P (Ok x) e m = absurd (false≢true e)
+refused_of P (Err f) e m = (f, m)
+
+pub accepted_of : {T E : Type 0} {P : T → Type 0} (Q : E → Type 0) (r : Result T E) → true ≡ is_ok r → MatchResult r P Q → (x : T) × P x
+accepted_of Q (Ok x) e m = (x, m)
+accepted_of Q (Err f) e m = absurd (false≢true (sym e))

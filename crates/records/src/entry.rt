@@ -55,6 +55,7 @@ pub(crate) fn flag_bytes(id: Option<i32>) -> [u8; 5]
     ensures bytes { result ≡ flagged id }
     ensures fits { IdFits id }
 {
+    // kept: no plainer, because `map_or` would only turn the two cases
     match id {
         None => [0, 0, 0, 0, 0],
         Some(id) => {
@@ -73,6 +74,7 @@ fn head(field: &UnboundPartitionField) -> [u8; 10]
     let source = field.source_id.to_be_bytes();
     let id = flag_bytes(field.field_id);
     let name_len = field.name.as_bytes().len() as u8;
+    // kept: no plainer, because arrays have no concatenation that gives an array
     [
         source[0], source[1], source[2], source[3], id[0], id[1], id[2], id[3], id[4], name_len,
     ]

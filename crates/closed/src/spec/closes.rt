@@ -25,10 +25,7 @@ impl PartitionSpec {
     {
         let fields = fields.as_slice();
         let mut ids = [0i32; MAX_FIELDS];
-        // kept: no plainer with map_err and `?`, since what the numbering tells is passed over
-        if let Err(_) = number(start, fields, &mut ids) {
-            return Err(DraftFault::NoNumber);
-        }
+        number(start, fields, &mut ids).map_err(|_| DraftFault::NoNumber)?;
         fill(&mut self.fields, fields, &ids);
         self.spec_id = spec_id;
         Ok(())
