@@ -1,13 +1,15 @@
 // Why a line has no answer of its own.
-ghost use Rattle.std.specs.Prelude.{◌≡◌};
+ghost use Rattle.std.specs.Prelude.{◌≡◌, Some};
+ghost use Rattle.commands.specs.Faults.{fault_text};
 ghost use Rattle.commands.specs.declared.fault.ScriptFault.TheVariants.{Memory, BadCommand, Refused};
 
 use faults::refusal::Refusal;
 use std::alloc::{AllocError, AllocFailed};
+use std::error::Error;
 use std::fmt;
 use std::num::ParseIntError;
 
-#[derive(Clone, Copy)]
+#[derive(Clone, Copy, Debug)]
 pub enum ScriptFault {
     Memory,
     // the line is no command of the language
@@ -15,6 +17,20 @@ pub enum ScriptFault {
     // what the line asks for is refused
     Refused(Refusal),
 }
+
+impl fmt::Display for ScriptFault {
+    ghost output = { λ fault. Some (fault_text fault) };
+
+    fn fmt<W: fmt::Write>(&self, f: &mut fmt::Formatter<W>) -> fmt::Result {
+        match self {
+            ScriptFault::Memory => f.write_str("out of memory"),
+            ScriptFault::BadCommand => f.write_str("bad-command"),
+            ScriptFault::Refused(refusal) => write!(f, "{refusal}"),
+        }
+    }
+}
+
+impl Error for ScriptFault {}
 
 impl From<AllocError> for ScriptFault {
     ghost from_gives = { λ _ r. r ≡ Memory };

@@ -1,5 +1,5 @@
 // The kinds of the crate's errors, and the layers that a refusal can come from.
-#[derive(Clone, Copy, PartialEq, Eq)]
+#[derive(Clone, Copy, Debug, PartialEq, Eq)]
 pub enum ErrorKind {
     // the state is not one that the call can go on from
     PreconditionFailed,
@@ -14,7 +14,7 @@ pub enum ErrorKind {
     CatalogCommitConflicts,
 }
 
-#[derive(Clone, Copy, PartialEq, Eq)]
+#[derive(Clone, Copy, Debug, PartialEq, Eq)]
 pub enum Layer {
     Name,
     Text,

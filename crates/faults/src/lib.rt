@@ -1,7 +1,7 @@
 // What every refusal tells: its number, its kind, its layer, its reason, a value and an index.
 #![tactic(auto)]
 
-ghost use Rattle.std.specs.Prelude.{◌≡◌};
+ghost use Rattle.std.specs.Prelude.{◌≡◌, Some};
 ghost use Rattle.faults.specs.Told.{Told, kind_word, layer_word};
 ghost use Rattle.faults.specs.Refusals.{told_by};
 
@@ -10,6 +10,7 @@ pub mod refusal;
 
 use error::{ErrorKind, Layer};
 use refusal::Refusal;
+use std::fmt;
 
 // A refusal by what it tells. `told` is the one definition of an enum's numbers and values.
 pub trait Fault {
@@ -91,5 +92,21 @@ impl Layer {
             Layer::Sort => "sort",
             Layer::Selection => "selection",
         }
+    }
+}
+
+impl fmt::Display for ErrorKind {
+    ghost output = { λ kind. Some (kind_word kind) };
+
+    fn fmt<W: fmt::Write>(&self, f: &mut fmt::Formatter<W>) -> fmt::Result {
+        f.write_str(self.into_static())
+    }
+}
+
+impl fmt::Display for Layer {
+    ghost output = { λ layer. Some (layer_word layer) };
+
+    fn fmt<W: fmt::Write>(&self, f: &mut fmt::Formatter<W>) -> fmt::Result {
+        write!(f, "{}", self.into_static())
     }
 }

@@ -6,7 +6,7 @@ use crate::Fault;
 use crate::error::{ErrorKind, Layer};
 use std::fmt;
 
-#[derive(Clone, Copy)]
+#[derive(Clone, Copy, Debug)]
 pub struct Refusal {
     pub number: u8,
     pub kind: ErrorKind,
@@ -45,20 +45,17 @@ impl fmt::Display for Refusal {
     ghost output = { λ r. Some (refusal_text (told_by r)) };
 
     fn fmt<W: fmt::Write>(&self, f: &mut fmt::Formatter<W>) -> fmt::Result {
-        let number = self.number;
-        let kind = self.kind.into_static();
-        let layer = self.layer.into_static();
-        let reason = self.reason;
-        match (self.value, self.index) {
-            (None, None) => write!(f, "refused {number} {kind} {layer} {reason}"),
-            (Some(value), None) => write!(f, "refused {number} {kind} {layer} {reason} {value}"),
-            (None, Some(index)) => write!(f, "refused {number} {kind} {layer} {reason} @{index}"),
-            (Some(value), Some(index)) => {
-                write!(
-                    f,
-                    "refused {number} {kind} {layer} {reason} {value} @{index}"
-                )
-            }
+        write!(
+            f,
+            "refused {} {} {} {}",
+            self.number, self.kind, self.layer, self.reason
+        )?;
+        if let Some(value) = self.value {
+            write!(f, " {value}")?;
         }
+        if let Some(index) = self.index {
+            write!(f, " @{index}")?;
+        }
+        Ok(())
     }
 }

@@ -69,8 +69,7 @@ impl Written for SortField {
         write!(
             f,
             "{} {} {direction} {nulls}",
-            self.source_id,
-            self.transform
+            self.source_id, self.transform
         )
     }
 }
@@ -98,9 +97,9 @@ fn write_name<W: fmt::Write>(name: &[u8], f: &mut fmt::Formatter<W>) -> fmt::Res
 
 fn is_bare(name: &[u8]) -> bool {
     !name.is_empty()
-        && name
-            .iter()
-            .all(|b| matches!(*b, b'A'..=b'Z' | b'a'..=b'z' | b'0'..=b'9' | b'_' | b'.' | b'-'))
+        && name.iter().all(
+            |b| matches!(*b, b'A'..=b'Z' | b'a'..=b'z' | b'0'..=b'9' | b'_' | b'.' | b'-'),
+        )
 }
 
 fn write_hex<W: fmt::Write>(bytes: &[u8], f: &mut fmt::Formatter<W>) -> fmt::Result {

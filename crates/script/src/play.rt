@@ -1,6 +1,5 @@
 // Plays a whole script.
 use crate::plan::Plan;
-use anyhow::anyhow;
 use commands::fault::ScriptFault;
 use std::alloc::Global;
 use std::io::{BufRead, BufReader, Read, Write};
@@ -12,9 +11,7 @@ pub fn play<I: Read + Drop, O: Write, N: Write>(
     out: &mut O,
     notes: &mut N,
 ) -> anyhow::Result<()> {
-    let Ok(mut plan) = Plan::new(heap) else {
-        return Err(anyhow!("out of memory"));
-    };
+    let mut plan = Plan::new(heap)?;
     for (before, line) in BufReader::new(heap, input)?.split(heap, b'\n').enumerate() {
         let bytes = line?;
         // a line that is no text is no command
@@ -36,14 +33,10 @@ fn answer_line<O: Write>(plan: &mut Plan, line: &str, out: &mut O) -> anyhow::Re
             writeln!(out, "{answer}")?;
             Ok(true)
         }
-        Err(ScriptFault::Refused(refusal)) => {
-            writeln!(out, "{refusal}")?;
-            Ok(true)
+        Err(ScriptFault::Memory) => Err(ScriptFault::Memory.into()),
+        Err(fault) => {
+            writeln!(out, "{fault}")?;
+            Ok(!matches!(fault, ScriptFault::BadCommand))
         }
-        Err(ScriptFault::BadCommand) => {
-            writeln!(out, "bad-command")?;
-            Ok(false)
-        }
-        Err(ScriptFault::Memory) => Err(anyhow!("out of memory")),
     }
 }

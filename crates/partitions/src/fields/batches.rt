@@ -14,6 +14,7 @@ impl FieldList {
     {
         let count = self.field_count();
         for (index, field) in batch.fields.iter().enumerate() {
+            // kept: no plainer with `?`, since the fields are put back before the refusal goes on
             if let Err(cause) = self.add_entry(adding, field, batch.area) {
                 self.truncate(count);
                 return Err(BatchFault { index, cause });

@@ -9,6 +9,6 @@ use Rattle.commands.proofs.verb.VerbFromStr.from_str.Goals as goal
 
 pub returns : goal.returns
 returns c =
-    found c.args.word.now c.find.result c.copied.result (search rules)
+    found c.args.word.now c.find.result c.copied-verb.result (search rules)
     (first_from_find _ _ c.find.result (λ verb. word_of verb ≡ c.args.word.now) (λ verb. word_of verb ≢ c.args.word.now) c.find.ensures.ran
     (YieldsList-from_slice VERBS c.iter.ensures.rest) (λ x q k. search (rules, tests)) (λ x q k. search (rules, tests)))
