@@ -64,6 +64,7 @@ fn play_file(rt: &HostRuntime, path: &str) -> anyhow::Result<()> {
     let file = open(rt, path)?;
     let mut out = BufWriter::new(rt.alloc(), rt.stdout())?;
     let mut notes = rt.stderr();
+    // kept, and in `open`: no plainer with map_err, in whose closure the message could not want memory
     match play(rt.alloc(), file, &mut out, &mut notes) {
         Ok(()) => Ok(()),
         Err(e) => Err(anyhow!(format!(in rt.alloc(); "{e}: {path}")?)),

@@ -24,6 +24,7 @@ impl PartitionSpec {
         ensures laws { ClosingLaws start (listed fields.now) (paper_closed self.new).fields (closed_ids self.new) result }
     {
         let fields = fields.as_slice();
+        // kept: fixed memory, filled by `number` from the front
         let mut ids = [0i32; MAX_FIELDS];
         number(start, fields, &mut ids).map_err(|_| DraftFault::NoNumber)?;
         fill(&mut self.fields, fields, &ids);
