@@ -12,6 +12,7 @@ use numbering::Identified;
 use partitions::field::UnboundPartitionField;
 use transforms::transform::Transform;
 
+// kept: a type beside the unbound field, as in the published crate, so that no place asks whether an id is there
 #[derive(Clone, Copy)]
 pub struct PartitionField {
     pub source_id: i32,

@@ -20,6 +20,7 @@ const PLAIN: [PrimitiveType; 14] = [
 ];
 
 // A type by its word, with its parameters: int, decimal(9,2), fixed[16], list, list@4.
+// kept: a function and not FromStr, here and for orders: the types are another crate's, and the words are the script's
 pub fn read_type(word: &str) -> Option<Type> {
     read_nested(word).or_else(|| read_primitive(word).map(Type::Primitive))
 }

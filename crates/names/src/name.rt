@@ -30,6 +30,7 @@ pub struct Name {
 }
 
 // Where a name's bytes lie in an area.
+// kept: a place and not the bytes, since that it passes the area's end is a case with an answer of its own
 #[derive(Clone, Copy, PartialEq, Eq)]
 pub struct NamePlace {
     pub start: usize,

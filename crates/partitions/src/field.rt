@@ -27,6 +27,7 @@ pub struct FieldView<'a> {
 }
 
 impl UnboundPartitionField {
+    // kept: no plainer by From, which would have to say of which reference
     pub fn view(&self) -> FieldView<'_>
         ensures { seen result ≡ paper_field self.now }
     {

@@ -61,19 +61,17 @@ fn play_input(rt: &HostRuntime) -> anyhow::Result<()> {
 }
 
 fn play_file(rt: &HostRuntime, path: &str) -> anyhow::Result<()> {
-    let file = open(rt, path)?;
+    let file = about(rt, path, File::open(rt, path).map_err(anyhow::Error::from))?;
     let mut out = BufWriter::new(rt.alloc(), rt.stdout())?;
     let mut notes = rt.stderr();
-    // kept, and in `open`: no plainer with map_err, in whose closure the message could not want memory
-    match play(rt.alloc(), file, &mut out, &mut notes) {
-        Ok(()) => Ok(()),
-        Err(e) => Err(anyhow!(format!(in rt.alloc(); "{e}: {path}")?)),
-    }
+    about(rt, path, play(rt.alloc(), file, &mut out, &mut notes))
 }
 
-fn open(rt: &HostRuntime, path: &str) -> anyhow::Result<File> {
-    match File::open(rt, path) {
-        Ok(file) => Ok(file),
+// What was made, or its error with the path that it is about.
+fn about<T>(rt: &HostRuntime, path: &str, made: anyhow::Result<T>) -> anyhow::Result<T> {
+    // kept: no plainer with map_err, in whose closure the message could not want memory
+    match made {
+        Ok(made) => Ok(made),
         Err(e) => Err(anyhow!(format!(in rt.alloc(); "{e}: {path}")?)),
     }
 }

@@ -102,13 +102,7 @@ impl Columns {
         question: &Q,
     ) -> Result<Answer, ScriptFault> {
         match &self.selected {
-            Some(ids) => {
-                let mut selection = Selection::new(heap, under)?;
-                for id in ids {
-                    let _ = selection.select(*id);
-                }
-                question.ask(&selection)
-            }
+            Some(ids) => { question.ask(&selection_of(heap, under, ids.as_slice())?) }
             None => question.ask(under),
         }
     }
@@ -120,13 +114,23 @@ fn extend(
     all: &mut Vec<i32>,
     ids: &[i32],
 ) -> Result<Answer, ScriptFault> {
-    let mut selection = Selection::new(heap, table)?;
-    for id in all.iter() {
-        let _ = selection.select(*id);
-    }
+    let mut selection = selection_of(heap, table, all.as_slice())?;
     for id in ids {
         selection.select(*id).map_err(Refusal::from)?;
         all.push(*id)?;
     }
     Ok(Answer::Done)
+}
+
+// The selection of ids that were selected before, so that none is refused.
+fn selection_of<'a, S: Schema>(
+    heap: Global,
+    under: &'a S,
+    ids: &[i32],
+) -> Result<Selection<'a, S>, ScriptFault> {
+    let mut selection = Selection::new(heap, under)?;
+    for id in ids {
+        let _ = selection.select(*id);
+    }
+    Ok(selection)
 }

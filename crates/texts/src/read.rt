@@ -33,6 +33,7 @@ pub fn strict(text: &[u8]) -> Result<Transform, TextFault>
     ensures same { SameTextExactlyWhenSameTransform }
 {
     let transform = loose(text).map_err(|_| TextFault::NotPrinted)?;
+    // kept: fixed memory, as long as the longest text
     let mut room = [0u8; 20];
     let n = print(transform, &mut room).map_err(|_| TextFault::NotPrinted)?;
     if &room[..n] == text {
@@ -70,6 +71,7 @@ fn width(text: &[u8]) -> Result<u32, TextFault>
     }
 }
 
+// kept: two functions, and so is `before_close`: one works from the front and one from the back
 fn past_open(text: &[u8]) -> &[u8]
     ensures { OpenGone text.now result.now }
 {
