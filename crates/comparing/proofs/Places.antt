@@ -8,6 +8,7 @@ use Rattle.std.proofs.lemmas.Slice.Zip.{length-zip}
 use Rattle.partitions.specs.declared.field.UnboundPartitionField.{UnboundPartitionField}
 use Rattle.partitions.specs.Equals.{field_eq}
 use Rattle.partitions.proofs.Same.{fields_decided}
+use Rattle.partitions.proofs.Viewed.{all_same, one_other}
 use Rattle.partitions.specs.Views.{paper_field, papers}
 use Rattle.comparing.specs.Partings.{PartAt}
 
@@ -35,12 +36,6 @@ agree (f ∷ fs) (g ∷ gs) n le h zero lt = ap Some (same f g (h 0 (f, g) (omeg
 agree (f ∷ fs) (g ∷ gs) zero le h (suc k) lt = absurd (omega arith)
 agree (f ∷ fs) (g ∷ gs) (suc n) le h (suc k) lt = agree fs gs n (omega arith) (λ j d low high. h (suc j) d (omega arith) (omega arith)) k (omega arith)
 
-differ : (fs gs : List UnboundPartitionField) (n : ℕ) → n < length (zip fs gs) → HoldsAt Other (zip fs gs) n → slice_get (papers fs) n ≡ slice_get (papers gs) n → ⊥
-differ [] gs n lt h e = absurd (omega arith)
-differ (f ∷ fs) [] n lt h e = absurd (omega arith)
-differ (f ∷ fs) (g ∷ gs) zero lt h e = other f g (h (f, g)) cc
-differ (f ∷ fs) (g ∷ gs) (suc n) lt h e = differ fs gs n (omega arith) h e
-
 -- where one ends, the other has an element, or they are of one length
 ends : (fs gs : List UnboundPartitionField) → (length fs ≡ length gs → ⊥) → slice_get (papers fs) (length (zip fs gs)) ≡ slice_get (papers gs) (length (zip fs gs)) → ⊥
 ends [] [] n e = n refl
@@ -48,28 +43,20 @@ ends [] (g ∷ gs) n e = cc
 ends (f ∷ fs) [] n e = cc
 ends (f ∷ fs) (g ∷ gs) n e = ends fs gs (λ q. n (ap suc q)) e
 
-equal : (fs gs : List UnboundPartitionField) → length fs ≡ length gs → AllWithin Same (zip fs gs) 0 (length (zip fs gs)) → papers fs ≡ papers gs
-equal [] [] e h = refl
-equal [] (g ∷ gs) e h = absurd (omega arith)
-equal (f ∷ fs) [] e h = absurd (omega arith)
-equal (f ∷ fs) (g ∷ gs) e h =
-    let first : paper_field f ≡ paper_field g = same f g (h 0 (f, g) (omega arith) (omega arith)) in
-    λ i. first i ∷ equal fs gs (omega arith) (λ j d low high. h (suc j) d (omega arith) (omega arith)) i
-
 -- the first pair that differs, or else the place where the shorter ends, if one is
 pub first : (fs gs : List UnboundPartitionField) (o r : Option ℕ) (longer : Bool) (shared : ℕ)
     → MatchOption o (AllWithin Same (zip fs gs) 0 (length (zip fs gs))) (λ i. (i < length (zip fs gs)) × HoldsAt Other (zip fs gs) i × AllWithin Same (zip fs gs) 0 i)
     → MatchOption o (r ≡ then_some longer shared) (λ i. r ≡ Some i) → longer ≡ not (eqb (length fs) (length gs)) → shared ≡ min (length fs) (length gs)
     → MatchOption r (papers fs ≡ papers gs) (λ place. PartAt (papers fs) (papers gs) place)
 first fs gs (Some i) r longer shared (lt, here, before) e l s =
-    subst (λ r. MatchOption r (papers fs ≡ papers gs) (λ place. PartAt (papers fs) (papers gs) place)) (sym e) (record { before = agree fs gs i (omega arith) before; here = differ fs gs i lt here })
+    subst (λ r. MatchOption r (papers fs ≡ papers gs) (λ place. PartAt (papers fs) (papers gs) place)) (sym e) (record { before = agree fs gs i (omega arith) before; here = one_other paper_field Other other fs gs i lt here })
 first fs gs None r true shared all e l s =
     let q : shared ≡ length (zip fs gs) = s ∙ sym (length-zip fs gs) in
     subst (λ r. MatchOption r (papers fs ≡ papers gs) (λ place. PartAt (papers fs) (papers gs) place)) (sym (e ∙ ap Some q))
     (record { before = agree fs gs _ (omega arith) all; here = ends fs gs (λ x. false≢true (sym (l ∙ ap not (eq-eqb _ _ x)))) })
 first fs gs None r false shared all e l s =
     subst (λ r. MatchOption r (papers fs ≡ papers gs) (λ place. PartAt (papers fs) (papers gs) place)) (sym e)
-    (equal fs gs (eqb-true _ _ (back (eqb (length fs) (length gs)) l)) all)
+    (all_same paper_field Same same fs gs (eqb-true _ _ (back (eqb (length fs) (length gs)) l)) all)
   where
     back : (b : Bool) → false ≡ not b → b ≡ true
     back true e = refl

@@ -4,18 +4,18 @@ use Rattle.std.specs.List.{ContainsAt as Has, AllByRecursion}
 use Rattle.std.proofs.lemmas.Int.{ints}
 use Rattle.std.proofs.ByRecursion.{all-has, has_get_or}
 use Rattle.numbering.specs.Numbering.{Least, Permitted, Numbered, Numbering}
-use Rattle.numbering.specs.Examples.{LaterStatedIsPassed, CountsOnFromStated, NothingAfterTheGreatest, GreatestIsGiven, CountsThroughNegatives, NoFieldsNoIds}
-use Rattle.numbering.proofs.Options.{none_some, some_none, some_same}
+use Rattle.numbering.specs.Examples.{LaterStatedIsPassed, CountsOnFromStated, GreatestIsGiven, CountsThroughNegatives}
+use Rattle.std.proofs.lemmas.Option.{none-some, same_Some}
 use Rattle.numbering.proofs.Steps.{Tops, tops_none, tops_more, least_after, least_free, numbered_none, numbered_more}
 
 module _ (start : ℤ) (draft : List (Option ℤ)) (k : ℕ) (ids : List ℤ) (a : Numbered start draft k ids) (n : ℤ) where
   -- the next field states n
   keep : get_or draft k None ≡ Some n → Numbered start draft (k + 1) (ids ++ n ∷ [])
-  keep e = numbered_more start draft k ids a n (λ m q. some_same n m (sym e ∙ q)) (λ q. absurd (some_none n (sym e ∙ q)))
+  keep e = numbered_more start draft k ids a n (λ m q. same_Some n m (sym e ∙ q)) (λ q. absurd (none-some n (sym q ∙ e)))
 
   -- the next field states nothing and gets n
   give : get_or draft k None ≡ None → (top : ℤ) → Tops start ids top → Least (Permitted top draft []) n → Numbered start draft (k + 1) (ids ++ n ∷ [])
-  give e top t l = numbered_more start draft k ids a n (λ m q. absurd (none_some m (sym e ∙ q))) (λ _. least_after start ids top t draft n l)
+  give e top t l = numbered_more start draft k ids a n (λ m q. absurd (none-some m (sym e ∙ q))) (λ _. least_after start ids top t draft n l)
 
 unstated : (draft : List (Option ℤ)) (n : ℤ) → AllByRecursion (λ o. o ≡ Some n → ⊥) draft → Has draft (Some n) → ⊥
 unstated draft n all h = all-has (λ (o : Option ℤ). o ≡ Some n → ⊥) draft (Some n) all h refl
@@ -32,7 +32,7 @@ next draft last n is fits un = least_free draft last n fits (omega (arith, ints)
 module _ (start second first : ℤ) (after : second ≡ start +ℤ pos 1) (is : first ≡ second +ℤ pos 1) (fits : first ≤ℤ pos 2147483647) where
   least : Least (Permitted start (None ∷ Some second ∷ []) []) first
   least = least_free (None ∷ Some second ∷ []) start first fits (omega (arith, ints))
-      (unstated (None ∷ Some second ∷ []) first (λ e. none_some first e, (λ e. let q : second ≡ first = some_same second first e in omega (arith, ints), tt)))
+      (unstated (None ∷ Some second ∷ []) first (λ e. none-some first e, (λ e. let q : second ≡ first = same_Some second first e in omega (arith, ints), tt)))
       (λ m a b. let q : second ≡ m = omega (arith, ints) in subst (λ z. Has (None ∷ Some second ∷ []) (Some z)) q (has_get_or (None ∷ Some second ∷ []) 1 None (lit< tt)))
 
   passes : Numbering start (None ∷ Some second ∷ []) (first ∷ second ∷ [])
@@ -50,15 +50,7 @@ counts_on_from_stated =
     (keep (pos 999) (Some (pos 1005) ∷ None ∷ []) 0 [] (numbered_none (pos 999) (Some (pos 1005) ∷ None ∷ [])) (pos 1005) refl)
     (pos 1006) refl (pos 1005) (tops_more (pos 999) [] (pos 999) (tops_none (pos 999)) (pos 1005))
     (next (Some (pos 1005) ∷ None ∷ []) (pos 1005) (pos 1006) refl (omega (arith, ints))
-    (λ e. let q : pos 1005 ≡ pos 1006 = some_same (pos 1005) (pos 1006) e in omega (arith, ints), (λ e. none_some (pos 1006) e, tt)))
-
-pub nothing_after_the_greatest : NothingAfterTheGreatest
-nothing_after_the_greatest start = record {
-  inside = lit< tt;
-  wants = refl;
-  numbered = keep start (Some (pos 2147483647) ∷ None ∷ []) 0 [] (numbered_none start (Some (pos 2147483647) ∷ None ∷ [])) (pos 2147483647) refl;
-  none = λ n p. let above : pos 2147483647 <ℤ n = p.past_earlier.0 in let fits = p.fits in omega (arith, ints);
-}
+    (λ e. let q : pos 1005 ≡ pos 1006 = same_Some (pos 1005) (pos 1006) e in omega (arith, ints), (λ e. none-some (pos 1006) e, tt)))
 
 pub counts_through_negatives : CountsThroughNegatives
 counts_through_negatives =
@@ -69,7 +61,4 @@ counts_through_negatives =
     (next (None ∷ None ∷ []) (negsuc 1) (negsuc 0) refl (omega (arith, ints)) (none (negsuc 0)))
   where
     none : (n : ℤ) → AllByRecursion (λ o. o ≡ Some n → ⊥) (None ∷ None ∷ [])
-    none n = (λ e. none_some n e, (λ e. none_some n e, tt))
-
-pub no_fields_no_ids : NoFieldsNoIds
-no_fields_no_ids start = numbered_none start []
+    none n = (λ e. none-some n e, (λ e. none-some n e, tt))

@@ -7,7 +7,8 @@ use Rattle.std.proofs.lemmas.List.{take_more_same, take-take, length-take-le, ge
 use Rattle.std.proofs.ByRecursion.{All-get_or, has_get_or}
 use Rattle.numbering.specs.Ids.{Distinct}
 use Rattle.numbering.specs.Numbering.{Least, Permitted, Numbered, Numbering, Stuck, StatedOnce, AllState}
-use Rattle.numbering.proofs.Options.{by_stated, some_none, some_same}
+use Rattle.numbering.proofs.Options.{by_stated}
+use Rattle.std.proofs.lemmas.Option.{none-some, same_Some}
 
 pub least_unique : (P : ℤ → Type 0) (m n : ℤ) → Least P m → Least P n → m ≡ n
 least_unique P m n a b = let p : m ≤ℤ n = a.1 n b.0 in let q : n ≤ℤ m = b.1 m a.0 in omega (arith, ints)
@@ -84,8 +85,8 @@ module _ (start : ℤ) (draft : List (Option ℤ)) where
 pub stated_numbering : (start : ℤ) (draft : List (Option ℤ)) (ids : List ℤ) → AllState draft ids → Numbering start draft ids
 stated_numbering start draft ids all = subst (λ (d : List (Option ℤ)). Numbering start d ids) (sym all) (record {
   size = sym (length-map ids Some);
-  stated = λ i n lt e. some_same _ n (sym (at i lt) ∙ e);
-  given = λ i lt e. absurd (some_none _ (sym (at i lt) ∙ e));
+  stated = λ i n lt e. same_Some _ n (sym (at i lt) ∙ e);
+  given = λ i lt e. absurd (none-some _ (sym e ∙ at i lt));
 })
   where
     at : (i : ℕ) → i < length (map {A = ℤ} {B = Option ℤ} Some ids) → get_or (map Some ids) i None ≡ Some (get_or ids i (pos 0))

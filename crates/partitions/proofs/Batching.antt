@@ -1,23 +1,18 @@
 -- A batch, entry by entry, under any rules of an add. Assumes nothing.
-use Rattle.std.proofs.Common.{◌≡◌, ℕ, ◌+◌, ◌<◌, ◌≤◌, List, [], ◌∷◌, ◌++◌, length, get_or, take, pos, Some, None, Option, sym, refl, ap, ◌∙◌, subst, inr, ⊎_elim, arith}
-use Rattle.std.proofs.lemmas.List.{append-nil, flat_map_more, take_more, take_all, take_at, get_or_read, get_or-map, length-map}
+use Rattle.std.proofs.Common.{◌≡◌, ℕ, ◌+◌, ◌<◌, List, [], ◌∷◌, ◌++◌, length, get_or, take, pos, Some, None, Option, sym, refl, ap, ◌∙◌, subst, inr, ⊎_elim, arith}
+use Rattle.std.proofs.lemmas.List.{flat_map_more, take_more, take_at, get_or_read, get_or-map, length-map}
 use Rattle.std.proofs.lemmas.Bool.{cases_lt}
-use Rattle.std.specs.Option.{option_map, option_to_list}
+use Rattle.std.specs.Option.{option_to_list}
 use Rattle.faults.specs.Told.{Told}
 use Rattle.faults.specs.Rules.{Rule, AllKept, FirstBroken}
-use Rattle.names.specs.Placed.{placed}
 use Rattle.partitions.specs.BatchFaults.{cause_told, batch_told}
-use Rattle.partitions.specs.Batches.{entry, entries, given, rules_unless_none, entry_rules, KeptAt, EachKept, RefusedAt}
-use Rattle.partitions.specs.Fields.{PaperField, field_of}
+use Rattle.partitions.specs.Batches.{entry, entries, given, rules_unless_none, entry_rules, KeptAt, RefusedAt}
+use Rattle.partitions.specs.Fields.{PaperField}
 use Rattle.partitions.specs.declared.batch.BatchField.{BatchField}
 use Rattle.partitions.specs.declared.batch.BatchCause.{BatchCause}
 use Rattle.transforms.specs.declared.transform.Transform.TheVariants.{Identity}
-use Rattle.partitions.proofs.Finding.{never}
+use Rattle.std.proofs.lemmas.Option.{none-some}
 use Rattle.faults.proofs.Firsts.{keeps, same_told}
-
-pub placed_entry : (area name : List ℕ) (b : BatchField) → Some name ≡ placed b.name.start b.name.length area
-    → entry area b ≡ Some (field_of b.source_id b.field_id name b.transform)
-placed_entry area name b e = ap (option_map (λ n. field_of b.source_id b.field_id n b.transform)) (sym e)
 
 -- what stands past the end of a batch is never looked at
 abbrev pub past_end : BatchField
@@ -27,10 +22,10 @@ module _ (rulesOf : List PaperField → PaperField → List Rule) where
   -- a field that is there has the rules of an add
   module _ (fs : List PaperField) (e : Option PaperField) (f : PaperField) (is : e ≡ Some f) (n : ℕ) where
     pub there_broken : (t : Told) → FirstBroken (rulesOf fs f) t → FirstBroken (rules_unless_none rulesOf n fs e) t
-    there_broken t b = subst (λ (o : Option PaperField). FirstBroken (rules_unless_none rulesOf n fs o) t) (sym is) (inr (keeps n _ (λ m. never f (sym m)), b))
+    there_broken t b = subst (λ (o : Option PaperField). FirstBroken (rules_unless_none rulesOf n fs o) t) (sym is) (inr (keeps n _ (λ m. none-some f (sym m)), b))
 
     pub there_kept : AllKept (rulesOf fs f) → AllKept (rules_unless_none rulesOf n fs e)
-    there_kept k = subst (λ (o : Option PaperField). AllKept (rules_unless_none rulesOf n fs o)) (sym is) (keeps n _ (λ m. never f (sym m)), k)
+    there_kept k = subst (λ (o : Option PaperField). AllKept (rules_unless_none rulesOf n fs o)) (sym is) (keeps n _ (λ m. none-some f (sym m)), k)
 
     pub there_given : (after : List PaperField) → after ≡ fs ++ f ∷ [] → after ≡ fs ++ option_to_list e
     there_given after a = a ∙ ap (λ (o : Option PaperField). fs ++ option_to_list o) (sym is)
@@ -41,9 +36,6 @@ module _ (rulesOf : List PaperField → PaperField → List Rule) where
     pub fields : now ≡ fs ++ given (take i es)
 
   module _ (fs : List PaperField) (es : List (Option PaperField)) where
-    pub none_added : Sofar fs es 0 fs
-    none_added = record { kept = λ k l. absurd (omega arith); fields = sym (append-nil fs) }
-
     module _ (i : ℕ) (now : List PaperField) (s : Sofar fs es i now) where
       -- e stands at i
       module _ (e : Option PaperField) (l : i < length es) (at : e ≡ get_or es i e) where
@@ -68,9 +60,6 @@ module _ (rulesOf : List PaperField → PaperField → List Rule) where
       pub front : (n : ℕ) → length fs ≡ n → take n now ≡ fs
       front n q = ap (take n) s.fields ∙ take_at fs (given (take i es)) n q
 
-      pub all_added : length es ≤ i → EachKept rulesOf fs es × (now ≡ fs ++ given es)
-      all_added h = (λ k l. s.kept k (omega arith), s.fields ∙ ap (λ os. fs ++ given os) (take_all i es h))
-
   -- the entries of a batch
   module _ (fs : List PaperField) (area : List ℕ) (bs : List BatchField) (i : ℕ) (now : List PaperField) (s : Sofar fs (entries area bs) i now) where
     module _ (l : i < length bs) where
@@ -92,6 +81,3 @@ module _ (rulesOf : List PaperField → PaperField → List Rule) where
       put_back cause after left n b q e =
           let t = batch_told (record { index = i; cause = cause }) in
           (refused_at fs (entries area bs) i now s here inside stands t (same_told (cause_told cause) t refl refl (entry_rules rulesOf now here) b.0), e ∙ ap (take n) b.1 ∙ front fs (entries area bs) i now s n (sym q))
-
-    pub whole_added : length bs ≤ i → EachKept rulesOf fs (entries area bs) × (now ≡ fs ++ given (entries area bs))
-    whole_added h = all_added fs (entries area bs) i now s (subst (λ n. n ≤ i) (sym (length-map bs (entry area))) h)

@@ -22,9 +22,8 @@ module _ (fs : List PaperField) (f : PaperField) where
   pub free : (stated : ℤ) → f.id ≡ Some stated → Nowhere (HasId stated) fs → Kept (rule 27 (Somewhere (HasStatedId f.id) fs))
   free stated e n = subst (λ (o : Option ℤ). Kept (rule 27 (Somewhere (HasStatedId o) fs))) (sym e) (keeps 27 (Somewhere (HasId stated) fs) (nowhere_not (HasId stated) fs n))
 
-  module _ (k : Kept (rule 27 (Somewhere (HasStatedId f.id) fs))) where
-    pub full_first : 64 ≤ length fs → FirstBroken (last_rules fs f) (told Full)
-    full_first h = inr (k, inl (refl, h))
+  pub full_first : 64 ≤ length fs → Kept (rule 27 (Somewhere (HasStatedId f.id) fs)) → FirstBroken (last_rules fs f) (told Full)
+  full_first h k = inr (k, inl (refl, h))
 
-    pub last_kept : length fs < 64 → AllKept (last_rules fs f)
-    last_kept h = (k, (keeps 28 _ (λ l. omega arith), tt))
+  pub last_kept : length fs < 64 → Kept (rule 27 (Somewhere (HasStatedId f.id) fs)) → AllKept (last_rules fs f)
+  last_kept h k = (k, (keeps 28 _ (λ l. omega arith), tt))

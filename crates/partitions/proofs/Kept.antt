@@ -11,7 +11,7 @@ use Rattle.partitions.specs.Listed.{listed}
 use Rattle.partitions.specs.Views.{paper_field, papers}
 use Rattle.partitions.specs.declared.field.UnboundPartitionField.{UnboundPartitionField}
 use Rattle.partitions.specs.declared.fields.FieldList.{FieldList}
-use Rattle.partitions.proofs.Builds.{fits, buildable_push}
+use Rattle.partitions.proofs.Builds.{buildable_push}
 use Rattle.partitions.proofs.Papers.{good_names}
 
 pub length_listed : (l : FieldList) → length (listed l) ≡ length l.fields

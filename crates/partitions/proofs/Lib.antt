@@ -6,3 +6,4 @@ pub mod Kept
 pub mod Adding
 pub mod Batching
 pub mod Same
+pub mod Viewed

@@ -32,6 +32,10 @@ module _ {X Y : Type 0} (f : X → Y) (E : X → X → Bool) (each : (x y : X) �
   pub views_decided : (xs ys : List X) (r : Bool) → r ≡ pointwise E xs ys → Decides r (map f xs ≡ map f ys)
   views_decided xs ys r e = Decides-at r _ e (views xs ys)
 
+  -- what lists compute to is told by their views
+  pub views_computed : (xs ys us vs : List X) (r : Bool) → map f xs ≡ map f us → map f ys ≡ map f vs → r ≡ pointwise E xs ys → r ≡ pointwise E us vs
+  views_computed xs ys us vs r p q e = same_from_decides r _ (Decides-like r (λ h. sym p ∙ h ∙ q) (λ h. p ∙ h ∙ sym q) (views_decided xs ys r e)) (views us vs)
+
 maybe_ids : (x y : Option ℤ) → Decides (option_eq int_eq x y) (x ≡ y)
 maybe_ids None None = (λ e. refl, λ e. refl)
 maybe_ids None (Some y) = (λ e. absurd (false≢true e), λ e. cc)
@@ -51,11 +55,6 @@ fields_decided x y =
 pub specs_decided : (x y : PaperSpec) (fs gs : List PaperField) (r : Bool) → x.spec_id ≡ y.spec_id → fs ≡ x.fields → gs ≡ y.fields → Decides r (fs ≡ gs) → Decides r (x ≡ y)
 specs_decided x y fs gs r i p q d =
     (λ e. (λ k. record { spec_id = i k; fields = (sym p ∙ d.0 e ∙ q) k }), λ e. d.1 (p ∙ ap (λ (s : PaperSpec). s.fields) e ∙ sym q))
-
--- what the fields compute to is told by their views
-pub fields_computed : (xs ys us vs : List UnboundPartitionField) (r : Bool) → papers xs ≡ papers us → papers ys ≡ papers vs → r ≡ pointwise field_eq xs ys → r ≡ pointwise field_eq us vs
-fields_computed xs ys us vs r p q e =
-    same_from_decides r _ (Decides-like r (λ h. sym p ∙ h ∙ q) (λ h. p ∙ h ∙ sym q) (views_decided paper_field field_eq fields_decided xs ys r e)) (views paper_field field_eq fields_decided us vs)
 
 pub spec_eq-Decides : (x y : UnboundPartitionSpec) → Decides (spec_eq x y) (paper_spec x ≡ paper_spec y)
 spec_eq-Decides x y =

@@ -2,7 +2,7 @@
 use Rattle.std.proofs.Common.{◌≡◌, ℕ, zero, suc, ◌<◌, false, List, [], ◌∷◌, length, get_or, ℤ, pos, Some, None, Decides, Option, sym, refl, ap, ◌∙◌, arith}
 use Rattle.std.proofs.lemmas.Slice.Eq.{bytes_eq-Decides}
 use Rattle.std.proofs.lemmas.List.{get_or_default}
-use Rattle.std.proofs.lemmas.Bool.{cond-true, cond-false}
+use Rattle.std.proofs.lemmas.Bool.{cond-true, cond-false, false_from_ne_true}
 use Rattle.std.proofs.lemmas.Bool.Decides.{Decides-like}
 use Rattle.transforms.specs.declared.datatypes.PrimitiveType.TheVariants.{Boolean}
 use Rattle.transforms.specs.declared.datatypes.«Type».TheVariants.{Primitive}
@@ -14,7 +14,7 @@ use Rattle.schemas.specs.RowLaws.{First, FirstRowDecides, RegularRowsAreFound}
 use Rattle.schemas.specs.Rows.{Row, column_in, id_in, is_called}
 use Rattle.schemas.specs.TableRows.{row_of, rows_of}
 use Rattle.schemas.proofs.Firsts.{Lookup}
-use Rattle.schemas.proofs.Identity.{false_from_decides, same_decides}
+use Rattle.schemas.proofs.Identity.{same_decides}
 
 -- what is read past the records' end
 abbrev pub blank : ColumnRecord
@@ -41,7 +41,7 @@ called_decides (Some own) name = Decides-like _ (λ e. ap Some e) (λ e. cc) (by
 -- a lookup of rows whose test decides that a row's key is v
 module _ {V W : Type 0} (l : Lookup Row V) (key : Row → W) (v : W) (decides : (row : Row) → Decides (l.test row) (key row ≡ v)) where
   passed_over : (row : Row) (rows : List Row) → (key row ≡ v → ⊥) → l.find (row ∷ rows) ≡ l.find rows
-  passed_over row rows n = l.more row rows ∙ cond-false _ _ _ (false_from_decides (l.test row) (decides row) n)
+  passed_over row rows n = l.more row rows ∙ cond-false _ _ _ (false_from_ne_true (l.test row) (λ e. n ((decides row).0 e)))
 
   at_first : (rows : List Row) (k : ℕ) (d : Row) → First key v rows k → l.find rows ≡ Some (l.value (get_or rows k d))
   at_first [] k d h = let z : k < 0 = h.within in absurd (omega arith)

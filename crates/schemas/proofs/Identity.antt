@@ -1,5 +1,5 @@
 -- Equality of ids: `same` decides it.
-use Rattle.std.proofs.Common.{◌≡◌, Bool, true, false, List, ℤ, pos, negsuc, Decides, sym, refl, ap, ◌∙◌}
+use Rattle.std.proofs.Common.{◌≡◌, true, List, ℤ, pos, negsuc, Decides, sym, refl, ap, ◌∙◌}
 use Rattle.std.specs.List.{ContainsAt as Has}
 use Rattle.std.proofs.lemmas.Bool.{eqb-true}
 use Rattle.std.proofs.lemmas.Bool.Decides.{Decides-by_or}
@@ -14,10 +14,6 @@ same_is (negsuc a) (negsuc b) e = ap negsuc (eqb-true a b e)
 
 pub same_decides : (x y : ℤ) → Decides (same x y) (x ≡ y)
 same_decides x y = (same_is x y, λ e. ap (same x) (sym e) ∙ same_refl x)
-
-pub false_from_decides : {P : Type 0} (b : Bool) → Decides b P → (P → ⊥) → b ≡ false
-false_from_decides true h n = absurd (n (h.0 refl))
-false_from_decides false h n = refl
 
 pub has_decides : (ids : List ℤ) (id : ℤ) → Decides (has ids id) (Has ids id)
 has_decides ids id = Decides-by_or (λ x. same x id) (λ x. x ≡ id) (λ xs. has xs id) (λ x. same_decides x id) refl (λ _ _. refl) ids

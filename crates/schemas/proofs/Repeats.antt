@@ -1,13 +1,16 @@
 -- Rows among which nothing repeats, row by row.
-use Rattle.std.proofs.Common.{◌≡◌, ℕ, zero, suc, ◌-◌, ◌<◌, Bool, true, false, not, ◌&&◌, List, [], ◌∷◌, length, get_or, take, drop, ℤ, is_some, Some, None, Decides, sym, refl, ap, ◌∙◌, subst, arith}
+use Rattle.std.proofs.Common.{◌≡◌, ℕ, zero, suc, ◌-◌, ◌<◌, Bool, true, false, not, ◌&&◌, List, [], ◌∷◌, length, get_or, take, drop, ℤ, is_some, Some, Decides, Option, sym, refl, ap, ◌∙◌, subst, arith}
 use Rattle.std.specs.List.{HoldsAt}
 use Rattle.std.proofs.lemmas.List.{drop_more, get_or_default, nil_from_length, take_rest}
 use Rattle.std.proofs.lemmas.Bool.{both_ways, false≢true}
 use Rattle.std.proofs.lemmas.Bool.Decides.{Decides-and, Decides-at, Decides-like, Decides-not}
 use Rattle.schemas.specs.Regular.{Apart, Nowhere, New, Regular}
+use Rattle.schemas.specs.TableRows.{row_of, rows_of}
+use Rattle.schemas.specs.declared.schema.Column.{Column}
+use Rattle.schemas.specs.declared.table.ColumnRecord.{ColumnRecord}
 use Rattle.schemas.specs.Rows.{Row, column_in, id_in}
 use Rattle.schemas.proofs.Firsts.{found_decides}
-use Rattle.schemas.proofs.Found.{column_by_row, id_by_row, called_decides}
+use Rattle.schemas.proofs.Found.{blank, column_by_row, id_by_row, called_decides}
 use Rattle.schemas.proofs.Identity.{same_decides}
 
 module _ {V : Type 0} (f : Row → V) where
@@ -39,22 +42,23 @@ id_found rows id = found_decides (column_by_row id) (λ row. row.id ≡ id) (λ 
 name_found : (rows : List Row) (name : List ℕ) → Decides (is_some (id_in rows name)) ((k : ℕ) × (k < length rows) × HoldsAt (λ row. row.name ≡ Some name) rows k)
 name_found rows name = found_decides (id_by_row name) (λ row. row.name ≡ Some name) (λ row. called_decides row.name name) rows
 
--- a row that has a name, by what its two lookups find
-pub new_by_both : (row : Row) (rows : List Row) (name : List ℕ) (a b : Bool) → Some name ≡ row.name → is_some (column_in rows row.id) ≡ not a → is_some (id_in rows name) ≡ not b → a ≡ true
-    → Decides b (New row rows)
-new_by_both row rows name a b q ea eb t =
-    Decides-at b (a && b) (ap (λ x. x && b) (sym t))
-    (Decides-like (a && b)
-    (λ n. record { id = n.0; name = λ k d lt e. n.1 k d lt (e ∙ sym q); named = ap is_some (sym q) })
-    (λ n. (n.id, λ k d lt e. n.name k d lt (e ∙ q)))
-    (Decides-and a b (not_found (λ other. other.id) rows row.id row _ a ea (id_found rows row.id))
-    (not_found (λ other. other.name) rows (Some name) row _ b eb (name_found rows name))))
+-- by what a lookup of the row's id finds
+module _ (row : Row) (rows : List Row) (id : ℤ) (found : Option Column) (a : Bool) (p : id ≡ row.id) (e : found ≡ column_in rows id) (f : is_some found ≡ not a) where
+  id_none : is_some (column_in rows row.id) ≡ not a
+  id_none = ap is_some (ap (column_in rows) (sym p) ∙ sym e) ∙ f
 
-pub new_by_id : (row : Row) (rows : List Row) (a : Bool) → is_some (column_in rows row.id) ≡ not a → a ≡ false → Decides a (New row rows)
-new_by_id row rows a e f = (λ t. absurd (both_ways a f t), λ n. (not_found (λ other. other.id) rows row.id row _ a e (id_found rows row.id)).1 n.id)
+  -- and of its name
+  pub new_by_both : (name : List ℕ) (b : Bool) → Some name ≡ row.name → is_some (id_in rows name) ≡ not b → a ≡ true → Decides b (New row rows)
+  new_by_both name b q eb t =
+      Decides-at b (a && b) (ap (λ x. x && b) (sym t))
+      (Decides-like (a && b)
+      (λ n. record { id = n.0; name = λ k d lt e. n.1 k d lt (e ∙ sym q); named = ap is_some (sym q) })
+      (λ n. (n.id, λ k d lt e. n.name k d lt (e ∙ q)))
+      (Decides-and a b (not_found (λ other. other.id) rows row.id row _ a id_none (id_found rows row.id))
+      (not_found (λ other. other.name) rows (Some name) row _ b eb (name_found rows name))))
 
-pub nameless : (row : Row) (rows : List Row) → None ≡ row.name → Decides false (New row rows)
-nameless row rows q = (λ e. absurd (false≢true e), λ n. ap is_some q ∙ n.named)
+  pub new_by_id : a ≡ false → Decides a (New row rows)
+  new_by_id f = (λ t. absurd (both_ways a f t), λ n. (not_found (λ other. other.id) rows row.id row _ a id_none (id_found rows row.id)).1 n.id)
 
 pub regular_none : Regular []
 regular_none = record { ids = λ i j d lt below e. omega arith; names = λ i j d lt below e. omega arith; named = λ k d lt. absurd (omega arith) }
@@ -83,16 +87,22 @@ regular_rest row rows h =
       named = λ k d lt. h.named (suc k) d (omega arith);
     }
 
--- a loop over the rows: A is regular exactly when what is left is
-module _ (rows : List Row) (row : Row) (later : List Row) (A : Type 0) (e : rows ≡ row ∷ later) (inv : (Regular rows → A) × (A → Regular rows)) where
+-- a loop over the records: A is regular exactly when what is left is
+module _ (left : List ColumnRecord) (area : List ℕ) (A : Type 0) (some : 0 < length left) (inv : (Regular (rows_of left area) → A) × (A → Regular (rows_of left area))) where
+  abbrev row : Row
+  row = row_of area (get_or left 0 blank)
+
+  abbrev later : List Row
+  later = rows_of (take (length left - 1) (drop 1 left)) area
+
+  split : rows_of left area ≡ row ∷ later
+  split = ap (λ rs. rows_of rs area) (drop_more left 0 blank some ∙ ap (λ rs. get_or left 0 blank ∷ rs) (sym (take_rest left 1)))
+
   pub still_regular : New row later → (Regular later → A) × (A → Regular later)
-  still_regular new = (λ h. inv.0 (subst Regular (sym e) (regular_more row later new h)), λ a. regular_rest row later (subst Regular e (inv.1 a)))
+  still_regular new = (λ h. inv.0 (subst Regular (sym split) (regular_more row later new h)), λ a. regular_rest row later (subst Regular split (inv.1 a)))
 
   pub not_regular : (New row later → ⊥) → Decides false A
-  not_regular n = (λ t. absurd (false≢true t), λ a. absurd (n (regular_first row later (subst Regular e (inv.1 a)))))
+  not_regular n = (λ t. absurd (false≢true t), λ a. absurd (n (regular_first row later (subst Regular split (inv.1 a)))))
 
-pub first_row : {X : Type 0} (xs : List X) (d : X) → 0 < length xs → xs ≡ get_or xs 0 d ∷ take (length xs - 1) (drop 1 xs)
-first_row xs d lt = drop_more xs 0 d lt ∙ ap (λ ys. get_or xs 0 d ∷ ys) (sym (take_rest xs 1))
-
-pub empty_regular : {X : Type 0} (rows_of : List X → List Row) (xs : List X) → rows_of [] ≡ [] → length xs ≡ 0 → Regular (rows_of xs)
-empty_regular rows_of xs e none = subst Regular (sym (ap rows_of (nil_from_length xs none) ∙ e)) regular_none
+pub empty_regular : (left : List ColumnRecord) (area : List ℕ) → length left ≡ 0 → Regular (rows_of left area)
+empty_regular left area none = subst Regular (sym (ap (λ rs. rows_of rs area) (nil_from_length left none))) regular_none

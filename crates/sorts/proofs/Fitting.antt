@@ -1,5 +1,6 @@
 -- Fields whose rules are kept fit every schema that shows the same columns.
-use Rattle.std.proofs.Common.{◌≡◌, Bool, true, false, List, [], ◌∷◌, is_some, IsSomeAnd, Some, None, Option, refl, subst}
+use Rattle.std.proofs.lemmas.Bool.{true_from_ne_false}
+use Rattle.std.proofs.Common.{◌≡◌, true, false, List, [], ◌∷◌, is_some, IsSomeAnd, Some, None, Option, refl, subst}
 use Rattle.std.specs.List.{AllByRecursion}
 use Rattle.faults.specs.Rules.{AllKept}
 use Rattle.faults.proofs.Firsts.{kept_front, kept_back}
@@ -11,10 +12,6 @@ use Rattle.sorts.specs.declared.sort.SortField.{SortField}
 use Rattle.sorts.specs.Promises.{Fits}
 use Rattle.sorts.specs.SortRules.{field_rules, each_field_rules}
 
-not_false : (b : Bool) → (b ≡ false → ⊥) → b ≡ true
-not_false true n = refl
-not_false false n = absurd (n refl)
-
 not_none : {X : Type 0} (o : Option X) → (o ≡ None → ⊥) → is_some o ≡ true
 not_none None n = absurd (n refl)
 not_none (Some x) n = refl
@@ -24,7 +21,7 @@ by_source : (c : Columns) (field : SortField) (o : Option Column) → c.by_id fi
     → Fits c field
 by_source c field None e known primitive fit = absurd (known refl)
 by_source c field (Some source) e known primitive fit =
-    record { source = source; found = e; primitive = not_false _ primitive; result = not_none _ fit }
+    record { source = source; found = e; primitive = true_from_ne_false _ primitive; result = not_none _ fit }
 
 fits : (c : Columns) (field : SortField) → AllKept (field_rules c field) → Fits c field
 fits c field k = by_source c field (c.by_id field.source_id) refl (k.0 None) (k.1.0 None) (k.1.1.0 None)

@@ -1,6 +1,6 @@
 -- The id 0 is the unsorted order's alone, where the rules of an id are kept.
 use Rattle.std.proofs.Common.{◌≡◌, ℕ, Bool, true, false, List, [], ◌∷◌, length, ℤ, pos, Some, None, Decides, Option, sym, refl, ap, subst, ⊎_elim, arith}
-use Rattle.std.proofs.lemmas.Bool.{cases_lt}
+use Rattle.std.proofs.lemmas.Bool.{cases_lt, false≢true}
 use Rattle.faults.specs.Rules.{AllKept}
 use Rattle.schemas.proofs.Identity.{same_decides}
 use Rattle.schemas.specs.Ids.{same}
@@ -11,7 +11,7 @@ use Rattle.sorts.specs.Zero.{ZeroIsUnsorted}
 
 by_test : {P : Type 0} (b : Bool) → Decides b P → ((P → ⊥) → ⊥) → P
 by_test true d n = d.0 refl
-by_test false d n = absurd (n (λ p. let e : ◌≡◌ {A = Bool} false true = d.1 p in let z : ◌≡◌ {A = ℕ} 0 1 = cc in omega arith))
+by_test false d n = absurd (n (λ p. false≢true (d.1 p)))
 
 zero_alone : (id : Option ℤ) (fields : List SortField) → AllKept (order_rules id fields) → ZeroIsUnsorted (order_id id fields) fields
 zero_alone (Some id) fields k = (

@@ -1,11 +1,12 @@
 -- A printed text reads back as the transform that it was printed from. Assumes nothing.
-use Rattle.std.proofs.Common.{◌≡◌, ℕ, ◌-◌, ◌^◌, ◌<◌, ◌≤◌, true, false, List, [], ◌∷◌, ◌++◌, length, get_or, take, drop, Ok, Err, codes, decimal, Result, sym, refl, ap, ◌∙◌, subst, inl, arith, length-append}
+use Rattle.std.proofs.Common.{◌≡◌, Bool, ℕ, ◌-◌, ◌^◌, ◌<◌, ◌≤◌, true, false, Decides, List, [], ◌∷◌, ◌++◌, length, get_or, take, drop, Ok, Err, codes, decimal, Result, sym, refl, ap, ◌∙◌, subst, inl, arith, length-append}
 use Rattle.std.specs.Int.{IsInRange}
 use Rattle.std.specs.Result.{is_ok}
 use Rattle.std.proofs.lemmas.Fmt.{decimal_is_IsNumeral, length-decimal-le}
 use Rattle.std.proofs.lemmas.List.{take_at, get_or_append_left}
 use Rattle.std.proofs.lemmas.Str.Parse.{digit_at, without_leading_plus_none}
 use Rattle.std.proofs.lemmas.Bool.{false≢true}
+use Rattle.std.proofs.lemmas.Bool.Decides.{Decides-like}
 use Rattle.transforms.specs.declared.transform.Transform.{Transform}
 use Rattle.transforms.specs.declared.transform.Transform.TheVariants.{Identity, Bucket, Truncate, Year, Month, Day, Hour, Void, Unknown}
 use Rattle.transforms.specs.Printed.{printed, Narrow}
@@ -16,7 +17,7 @@ use Rattle.texts.specs.Writing.{Wrote}
 use Rattle.texts.specs.Width.{Between, Number, SpellsWidth}
 use Rattle.texts.specs.Words.{After, Spells}
 use Rattle.texts.specs.Reading.{LooseReading, StrictReading, Prints}
-use Rattle.texts.specs.Promises.{ReadBack, AsDocumented, AcceptsExactlyThePrinted, SameTextExactlyWhenSameTransform}
+use Rattle.texts.specs.Promises.{ReadBack, AcceptsExactlyThePrinted, SameTextExactlyWhenSameTransform}
 use Rattle.texts.proofs.Only.{loose_only}
 
 between : (ds : List ℕ) → 0 < length ds → ((i : ℕ) → i < length ds → IsInRange 48 57 (get_or ds i 0)) → Between (91 ∷ (ds ++ 93 ∷ [])) ds
@@ -72,17 +73,6 @@ pub fits : (t : Transform) (room now : List ℕ) (r : Result ℕ OutputShort) �
 fits t room now (Ok n) h e w = refl
 fits t room now (Err f) h e w = absurd (omega (arith, w.0, short t h))
 
-pub documented : (t : Transform) → AsDocumented t
-documented Identity = refl
-documented (Bucket n) = refl
-documented (Truncate n) = refl
-documented Year = refl
-documented Month = refl
-documented Day = refl
-documented Hour = refl
-documented Void = refl
-documented Unknown = refl
-
 -- a text that a transform prints is read loosely as that transform, and in no other way
 pub print_read : (text : List ℕ) (t : Transform) → Prints t text → LooseReading text (Ok t)
 print_read text t p = subst (λ l. Spells l t) (sym p.1) (reads_so t p.0)
@@ -94,8 +84,12 @@ same_text x y s t p q = (
   λ e. p.1 ∙ ap printed e ∙ sym q.1,
 )
 
-pub front_is : (n : ℕ) (text room now : List ℕ) → n ≡ length text → now ≡ text ++ drop n room → take n now ≡ text
-front_is n text room now e w = ap (take n) w ∙ take_at text (drop n room) n (sym e)
+-- comparing the front that was written with a text tells whether the text is the print
+pub compared : (text room now : List ℕ) (t : Transform) (n : ℕ) (r : Result ℕ OutputShort) (b : Bool) → r ≡ Ok n → Wrote (printed t) room now r → Decides b (take n now ≡ text) → Decides b (text ≡ printed t)
+compared text room now t n r b e w d =
+    let k = subst (λ (o : Result ℕ OutputShort). Wrote (printed t) room now o) e w in
+    let front : take n now ≡ printed t = ap (take n) k.2 ∙ take_at (printed t) (drop n room) n (sym k.0) in
+    Decides-like b (λ q. sym q ∙ front) (λ q. front ∙ sym q) d
 
 -- a text that is no print is refused, and by nothing else
 pub not_printed : (text : List ℕ) → ((t : Transform) → Prints t text → ⊥) → StrictReading text (Err NotPrinted) × AcceptsExactlyThePrinted text (Err NotPrinted)

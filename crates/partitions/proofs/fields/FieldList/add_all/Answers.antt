@@ -1,6 +1,6 @@
 -- Each turn adds one entry; a refusal puts the fields back.
 use Rattle.partitions.specs.Listed.{listed}
-use Rattle.partitions.proofs.Batching.{next_added, put_back, whole_added}
+use Rattle.partitions.proofs.Batching.{next_added, put_back}
 use Rattle.partitions.proofs.fields.FieldList.add_all.Goals as goal
 
 pub returns-in-Err : goal.returns-in-Err
@@ -12,6 +12,3 @@ pub loop-index-preserved : goal.loop-index-preserved
 loop-index-preserved g c =
     next_added (g.A.Adding.rules c.args.adding.now) (listed c.args.self.now) c.args.batch.now.area.now c.args.batch.now.fields.now c.loop-index.index (listed c.loop-index.self) c.loop-index.invariant c.loop-index-test.true
     (listed c.add_entry.new.self) c.in_default.ensures
-
-pub returns : goal.returns
-returns g c = whole_added (g.A.Adding.rules c.args.adding.now) (listed c.args.self.now) c.args.batch.now.area.now c.args.batch.now.fields.now c.loop-index.index (listed c.loop-index.self) c.loop-index.invariant c.loop-index-test.false
