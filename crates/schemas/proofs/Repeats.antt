@@ -1,5 +1,5 @@
 -- Rows among which nothing repeats, row by row.
-use Rattle.std.proofs.Common.{◌≡◌, ℕ, zero, suc, ◌-◌, ◌<◌, Bool, true, false, not, ◌&&◌, List, [], ◌∷◌, length, get_or, take, drop, ℤ, is_some, Some, None, Decides, sym, refl, ap, ◌∙◌, subst, arith}
+use Rattle.std.proofs.Common.{◌≡◌, ℕ, zero, suc, ◌-◌, ◌<◌, Bool, true, false, not, ◌&&◌, List, [], ◌∷◌, length, get_or, take, drop, ℤ, is_some, Some, Decides, sym, refl, ap, ◌∙◌, subst, arith}
 use Rattle.std.specs.List.{HoldsAt}
 use Rattle.std.proofs.lemmas.List.{drop_more, get_or_default, nil_from_length, take_rest}
 use Rattle.std.proofs.lemmas.Bool.{both_ways, false≢true}
@@ -52,9 +52,6 @@ new_by_both row rows name a b q ea eb t =
 
 pub new_by_id : (row : Row) (rows : List Row) (a : Bool) → is_some (column_in rows row.id) ≡ not a → a ≡ false → Decides a (New row rows)
 new_by_id row rows a e f = (λ t. absurd (both_ways a f t), λ n. (not_found (λ other. other.id) rows row.id row _ a e (id_found rows row.id)).1 n.id)
-
-pub nameless : (row : Row) (rows : List Row) → None ≡ row.name → Decides false (New row rows)
-nameless row rows q = (λ e. absurd (false≢true e), λ n. ap is_some q ∙ n.named)
 
 pub regular_none : Regular []
 regular_none = record { ids = λ i j d lt below e. omega arith; names = λ i j d lt below e. omega arith; named = λ k d lt. absurd (omega arith) }
