@@ -6,14 +6,14 @@ use Rattle.transforms.specs.Orders.{Alike}
 use Rattle.transforms.specs.declared.transform.Transform.TheVariants.{Void}
 use Rattle.numbering.specs.Ids.{Distinct}
 use Rattle.numbering.specs.Numbering.{StatedOnce, AllState}
-use Rattle.numbering.proofs.Options.{some_same}
+use Rattle.std.proofs.lemmas.Option.{same_Some}
 use Rattle.partitions.specs.Buildable.{SameName, BothAlike, SameId}
 use Rattle.partitions.specs.Fields.{PaperField, HasStatedId}
 use Rattle.partitions.specs.Places.{Apart}
 use Rattle.closed.specs.Bare.{bare, bares, stateds}
 use Rattle.closed.specs.Opened.{opened, openeds, ids_of}
 use Rattle.closed.specs.declared.field.PartitionField.{PartitionField}
-use Rattle.closed.proofs.Viewed.{same_views_length}
+use Rattle.partitions.proofs.Viewed.{same_views_length}
 
 -- places that are apart by a view are apart in every list that has the same views
 module _ {X Y : Type 0} (f : X → Y) (D : Y → Y → Type 0) (xs ys : List X) (same : map f xs ≡ map f ys) where
@@ -66,7 +66,7 @@ module _ (fs : List PaperField) (ids : List ℤ) (all : AllState (stateds fs) id
       let early : c.earlier < length fs = omega (arith, c.order) in
       let clash : HasStatedId (Some (get_or ids c.later (pos 0))) (get_or fs c.earlier some_blank)
       = subst (λ (o : Option ℤ). HasStatedId o (get_or fs c.earlier some_blank)) (stated_at c.later some_blank inside) (c.clash some_blank) in
-      distinct c.earlier c.later c.order (omega arith) (some_same _ _ (sym (stated_at c.earlier some_blank early) ∙ clash))
+      distinct c.earlier c.later c.order (omega arith) (same_Some _ _ (sym (stated_at c.earlier some_blank early) ∙ clash))
 
   pub apart_distinct : Apart SameId fs → Distinct ids
   apart_distinct a i j lt inside e =

@@ -1,15 +1,14 @@
 -- The fields of a closed spec. Assumes nothing.
-use Rattle.std.proofs.Common.{◌≡◌, List, [], ◌∷◌, length, ℤ, Some, None, Option, sym, ap, ◌∙◌, subst, arith, MatchOption}
+use Rattle.std.proofs.Common.{◌≡◌, List, [], ◌∷◌, length, arith}
 use Rattle.std.specs.List.{AllByRecursion}
-use Rattle.std.proofs.lemmas.List.{length-map, nil_from_length}
+use Rattle.std.proofs.lemmas.List.{length-map}
 use Rattle.names.specs.GoodName.{GoodName}
 use Rattle.names.specs.NameBytes.{name_bytes}
 use Rattle.names.proofs.Good.{held}
-use Rattle.numbering.specs.Ids.{Distinct, Highest}
+use Rattle.numbering.specs.Ids.{Distinct}
 use Rattle.partitions.specs.Buildable.{Buildable}
-use Rattle.partitions.specs.Fields.{PaperField}
 use Rattle.closed.specs.Closed.{paper_closed, closed_ids}
-use Rattle.closed.specs.Opened.{opened, openeds, ids_of}
+use Rattle.closed.specs.Opened.{opened, openeds}
 use Rattle.closed.specs.declared.field.PartitionField.{PartitionField}
 use Rattle.closed.specs.declared.spec.PartitionSpec.{PartitionSpec}
 use Rattle.closed.proofs.Bares.{opened_state, apart_distinct}
@@ -28,9 +27,3 @@ buildable_closed s =
 
 pub distinct_closed : (s : PartitionSpec) → Distinct (closed_ids s)
 distinct_closed s = apart_distinct (paper_closed s).fields (closed_ids s) (opened_state s.fields) s.ids
-
--- the highest id of fields, on paper
-pub highest_closed : (fs : List PartitionField) (r : Option ℤ) → MatchOption r (length fs ≡ 0) (λ id. Highest (ids_of fs) id)
-    → (gs : List PaperField) (ids : List ℤ) → openeds fs ≡ gs → ids_of fs ≡ ids → MatchOption r (gs ≡ []) (λ id. Highest ids id)
-highest_closed fs None h gs ids p q = sym p ∙ ap openeds (nil_from_length fs h)
-highest_closed fs (Some id) h gs ids p q = subst (λ (l : List ℤ). Highest l id) q h

@@ -1,4 +1,3 @@
-pub mod Viewed
 pub mod Same
 pub mod Bares
 pub mod Held

@@ -1,11 +1,11 @@
 -- `==` of fields and of slices of them, compared on paper. Assumes nothing.
-use Rattle.std.proofs.Common.{◌≡◌, Bool, List, Some, Decides, sym, ap, ◌∙◌}
-use Rattle.std.specs.Cmp.Lexicographic.{pointwise, bytes_decides}
-use Rattle.std.proofs.lemmas.Bool.Decides.{same_from_decides, Decides-like, Decides-and, Decides-int_eq}
+use Rattle.std.proofs.Common.{◌≡◌, Some, Decides, ap}
+use Rattle.std.specs.Cmp.Lexicographic.{bytes_decides}
+use Rattle.std.proofs.lemmas.Bool.Decides.{Decides-like, Decides-and, Decides-int_eq}
 use Rattle.names.specs.NameBytes.{name_bytes}
 use Rattle.transforms.proofs.Equality.{transform_eq-Decides}
-use Rattle.numbering.proofs.Options.{some_same}
-use Rattle.partitions.proofs.Same.{views, views_decided}
+use Rattle.std.proofs.lemmas.Option.{same_Some}
+use Rattle.partitions.proofs.Same.{views}
 use Rattle.partitions.specs.Fields.{PaperField, PaperSpec}
 use Rattle.closed.specs.Bare.{Bare, bare}
 use Rattle.closed.specs.Equals.{bare_eq, field_eq, spec_eq}
@@ -28,17 +28,12 @@ field_eq-Decides x y =
     Decides-like _
     (λ (p : (x.field_id ≡ y.field_id) × (bare (opened x) ≡ bare (opened y))) i.
     record { source = (p.1 i).source; id = Some (p.0 i); name = (p.1 i).name; transform = (p.1 i).transform })
-    (λ e. (some_same _ _ (ap (λ (f : PaperField). f.id) e), ap bare e))
+    (λ e. (same_Some _ _ (ap (λ (f : PaperField). f.id) e), ap bare e))
     (Decides-and _ _ (Decides-int_eq x.field_id y.field_id) (bare_eq-Decides x y))
 
 pub spec_eq-Decides : (x y : PartitionSpec) → Decides (spec_eq x y) (paper_closed x ≡ paper_closed y)
 spec_eq-Decides x y =
     Decides-like _
     (λ (p : (x.spec_id ≡ y.spec_id) × (openeds x.fields ≡ openeds y.fields)) i. record { spec_id = Some (p.0 i); fields = p.1 i })
-    (λ e. (some_same _ _ (ap (λ (s : PaperSpec). s.spec_id) e), ap (λ (s : PaperSpec). s.fields) e))
+    (λ e. (same_Some _ _ (ap (λ (s : PaperSpec). s.spec_id) e), ap (λ (s : PaperSpec). s.fields) e))
     (Decides-and _ _ (Decides-int_eq x.spec_id y.spec_id) (views opened field_eq field_eq-Decides x.fields y.fields))
-
--- what the fields compute to is told by their fields on paper
-pub fields_computed : (xs ys us vs : List PartitionField) (r : Bool) → openeds xs ≡ openeds us → openeds ys ≡ openeds vs → r ≡ pointwise field_eq xs ys → r ≡ pointwise field_eq us vs
-fields_computed xs ys us vs r p q e =
-    same_from_decides r _ (Decides-like r (λ h. sym p ∙ h ∙ q) (λ h. p ∙ h ∙ sym q) (views_decided opened field_eq field_eq-Decides xs ys r e)) (views opened field_eq field_eq-Decides us vs)

@@ -1,5 +1,5 @@
 -- The type of a partition, field by field. Assumes nothing.
-use Rattle.std.proofs.Common.{◌≡◌, ℕ, zero, suc, ◌+◌, ◌<◌, ◌≤◌, ◌≢◌, List, [], ◌∷◌, length, get_or, drop, set, Some, None, Ok, Err, Option, Result, sym, refl, ap, ◌∙◌, subst, inl, inr, zero-le, arith, below_more, MatchResult}
+use Rattle.std.proofs.Common.{◌≡◌, ℕ, zero, suc, ◌+◌, ◌<◌, ◌≤◌, ◌≢◌, List, [], ◌∷◌, length, get_or, drop, set, Some, None, Ok, Err, Option, Result, sym, ap, ◌∙◌, subst, arith, below_more, MatchResult}
 use Rattle.std.proofs.lemmas.List.{length-set, length-map, get_or-set_same, get_or-set_other, drop-set-lt, drop-drop, get_or_default}
 use Rattle.faults.specs.Told.{Told}
 use Rattle.faults.specs.Rules.{Rule, rule, Kept, AllKept, FirstBroken}
@@ -8,20 +8,19 @@ use Rattle.transforms.specs.declared.transform.Transform.{Transform}
 use Rattle.schemas.specs.Columns.{Columns}
 use Rattle.schemas.specs.declared.schema.Column.{Column}
 use Rattle.partitions.specs.Fields.{PaperField}
-use Rattle.partitions.proofs.Finding.{never}
+use Rattle.std.proofs.lemmas.Option.{none-some}
 use Rattle.faults.proofs.Firsts.{keeps, kept_join, broken_front, broken_back}
 use Rattle.closed.specs.Opened.{opened, openeds}
 use Rattle.closed.specs.TypeFaults.{told}
 use Rattle.closed.specs.Typing.{made_of, making_rules, result_on, field_rules, each_rules, KeptBefore, Typed, TypedAt, Types}
 use Rattle.closed.specs.declared.field.PartitionField.{PartitionField}
 use Rattle.closed.specs.declared.types.TypeFault.{TypeFault}
-use Rattle.closed.specs.declared.types.TypeFault.TheVariants.{MemoryShort}
 use Rattle.closed.specs.declared.types.TypeField.{TypeField}
 
 -- a field that has a result type keeps its rules
 made_kept : (t : Transform) (o : Option Column) (x : ColumnType) → made_of t o ≡ Some x → AllKept (rule 24 (o ≡ None) ∷ making_rules t o)
-made_kept t None x e = absurd (never x e)
-made_kept t (Some column) x e = (keeps 24 _ (λ p. never column (sym p)), (keeps 8 _ (λ p. never x (sym p ∙ e)), tt))
+made_kept t None x e = absurd (none-some x e)
+made_kept t (Some column) x e = (keeps 24 _ (λ p. none-some column (sym p)), (keeps 8 _ (λ p. none-some x (sym p ∙ e)), tt))
 
 module _ (c : Columns) where
   pub result_kept : (f : PaperField) (x : ColumnType) → result_on c f ≡ Some x → AllKept (field_rules c f)
@@ -39,12 +38,6 @@ module _ (c : Columns) where
   each_kept (f ∷ fs) k = kept_join (field_rules c f) (each_rules c fs) (k 0 f (omega arith)) (each_kept fs (λ j e l. k (suc j) e (omega arith)))
 
   module _ (fs : List PaperField) where
-    pub kept_none : KeptBefore c fs 0
-    kept_none k d l = absurd (omega arith)
-
-    pub typed_none : (old : List TypeField) → Typed c fs 0 old old
-    typed_none old = record { room = zero-le; size = refl; each = λ k d e l. absurd (omega arith); past = refl }
-
     -- f stands at i
     module _ (i : ℕ) (f : PaperField) (lt : i < length fs) (read : f ≡ get_or fs i f) where
       same : (d : PaperField) → f ≡ get_or fs i d
@@ -75,15 +68,9 @@ module _ (c : Columns) (fs : List PartitionField) (gs : List PaperField) (is : o
   length_paper : length fs ≡ length gs
   length_paper = sym (length-map fs opened) ∙ ap length is
 
-  pub types_short : length old < length fs → Types c gs old old (Err MemoryShort)
-  types_short lt = let size = length_paper in (inl (refl, omega arith), refl)
-
   module _ (room : length fs ≤ length old) where
     enough : Kept (rule 12 (length old < length gs))
     enough = let size = length_paper in keeps 12 _ (λ less. omega arith)
-
-    pub types_broken : (fault : TypeFault) → FirstBroken (each_rules c (openeds fs)) (told fault) → Types c gs old old (Err fault)
-    types_broken fault b = (inr (enough, subst (λ (l : List PaperField). FirstBroken (each_rules c l) (told fault)) is b), refl)
 
     pub types_all : (new : List TypeField) → KeptBefore c (openeds fs) (length fs) → Typed c (openeds fs) (length fs) old new → Types c gs old new (Ok (length fs))
     types_all new kept typed = (

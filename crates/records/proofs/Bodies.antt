@@ -1,20 +1,17 @@
 -- The entries of the first fields: their bytes, how long they are, and how they are put one after another. Assumes nothing.
 use Rattle.std.proofs.Common.{◌≡◌, ℕ, ◌+◌, ◌-◌, ◌*◌, ◌<◌, ◌≤◌, List, [], ◌∷◌, ◌++◌, map, length, get_or, take, drop, Some, sym, refl, ap, ◌∙◌, subst, append_assoc, append-nil, arith, length-append, length-drop, take-append-drop}
 use borrow.Rule.Slice.PartMut.{put_mid, post_of}
-use Rattle.std.specs.List.{slice_get, flat_map, AllByRecursion}
+use Rattle.std.specs.List.{slice_get, AllByRecursion}
 use Rattle.std.proofs.ByRecursion.{All-push}
+use Rattle.std.proofs.lemmas.List.Concat.{flat_map-append}
 use Rattle.std.proofs.lemmas.List.{map-append, take_more, take_at, drop_at, drop-drop, drop_all, take_rest, take_all}
 use Rattle.std.proofs.lemmas.Option.{slice_get-get_or}
 use Rattle.partitions.specs.Fields.{PaperField}
 use Rattle.records.specs.Format.{entry_bytes, entry_of, body_bytes, field_bytes, FieldFits}
 
-joined_append : {X : Type 0} (f : X → List ℕ) (xs ys : List X) → flat_map f (xs ++ ys) ≡ flat_map f xs ++ flat_map f ys
-joined_append f [] ys = refl
-joined_append f (x ∷ xs) ys = ap (λ l. f x ++ l) (joined_append f xs ys) ∙ sym (append_assoc (f x) (flat_map f xs) (flat_map f ys))
-
 fields_append : (fs gs : List PaperField) → field_bytes (fs ++ gs) ≡ field_bytes fs ++ field_bytes gs
 unfolding body_bytes
-fields_append fs gs = ap body_bytes (map-append entry_of fs gs) ∙ joined_append entry_bytes (map entry_of fs) (map entry_of gs)
+fields_append fs gs = ap body_bytes (map-append entry_of fs gs) ∙ flat_map-append entry_bytes (map entry_of fs) (map entry_of gs)
 
 fields_one : (f : PaperField) → field_bytes (f ∷ []) ≡ entry_bytes (entry_of f)
 unfolding body_bytes

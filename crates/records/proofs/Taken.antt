@@ -1,8 +1,9 @@
 -- The entries that an iterator has left, and those that it gave. Assumes nothing.
-use Rattle.std.proofs.Common.{◌≡◌, ℕ, zero, suc, ◌+◌, ◌-◌, ◌<◌, ◌≤◌, List, [], ◌∷◌, ◌++◌, length, take, drop, Some, None, Option, refl, sym, ap, ◌∙◌, subst, arith}
+use Rattle.std.proofs.Common.{◌≡◌, ℕ, zero, suc, ◌+◌, ◌-◌, ◌<◌, ◌≤◌, List, [], ◌∷◌, length, get_or, take, drop, Some, None, Option, refl, sym, ap, ◌∙◌, subst, arith}
 use Rattle.std.specs.List.{slice_get}
 use Rattle.std.specs.Option.{option_map, MatchOption}
-use Rattle.std.proofs.lemmas.List.{take_all, length_push}
+use Rattle.std.proofs.lemmas.List.{take_all, drop_all, drop_more, length-take, length-drop}
+use Rattle.std.proofs.lemmas.Option.{slice_get-get_or}
 use Rattle.partitions.specs.Fields.{PaperField, PaperSpec}
 use Rattle.partitions.specs.Views.{paper_field}
 use Rattle.partitions.specs.declared.field.UnboundPartitionField.{UnboundPartitionField}
@@ -12,19 +13,9 @@ pub left_all : (plan : PaperSpec) (n : ℕ) → n ≡ length plan.fields → ent
 unfolding entries_left
 left_all plan n e = take_all n plan.fields (omega arith)
 
-drop_none : {X : Type 0} (i : ℕ) → drop {A = X} i [] ≡ []
-drop_none zero = refl
-drop_none (suc i) = refl
-
-past_end : {X : Type 0} (xs : List X) (i n : ℕ) → n ≤ i → drop i (take n xs) ≡ []
-past_end xs i zero le = drop_none i
-past_end xs zero (suc n) le = absurd (omega arith)
-past_end [] (suc i) (suc n) le = refl
-past_end (x ∷ xs) (suc i) (suc n) le = past_end xs i n (omega arith)
-
 pub left_end : (plan : PaperSpec) (i n : ℕ) → n ≤ i → entries_left plan i n ≡ []
 unfolding entries_left
-left_end plan i n le = past_end plan.fields i n le
+left_end plan i n le = drop_all i (take n plan.fields) (omega (arith, length-take n plan.fields))
 
 -- what is left begins with the element at the place, or there is none
 abbrev Begins : {X : Type 0} → List X → ℕ → ℕ → Option X → Type 0
@@ -56,23 +47,21 @@ module _ (plan : PaperSpec) (i n j m : ℕ) (end : m ≡ n) where
       at None b = (b.0, sym same ∙ b.1)
       at (Some f) b = b ∙ ap (λ fs. paper_field f ∷ fs) same
 
--- the next of the fields, of which the first were given
-pub record Next (fs : List PaperField) (k : ℕ) (f : PaperField) (rest : List PaperField) : Type 0 where
+-- the next of the fields, of which the first k were given: then j were
+pub record Next (fs : List PaperField) (k j : ℕ) (f : PaperField) (rest : List PaperField) : Type 0 where
   pub inside : k < length fs
   pub next : Some f ≡ slice_get fs k
-  pub is : rest ≡ drop (suc k) fs
+  pub is : rest ≡ drop j fs
 
-pub taken : (fs : List PaperField) (k : ℕ) (f : PaperField) (rest : List PaperField) → drop k fs ≡ f ∷ rest → Next fs k f rest
-taken [] zero f rest e = cc
-taken [] (suc k) f rest e = cc
-taken (g ∷ fs) zero f rest e = record { inside = omega arith; next = cc; is = cc }
-taken (g ∷ fs) (suc k) f rest e = let p = taken fs k f rest e in record { inside = omega (arith, p.inside); next = p.next; is = p.is }
+pub taken : (fs : List PaperField) (k j : ℕ) (f : PaperField) (rest : List PaperField) → j ≡ k + 1 → drop k fs ≡ f ∷ rest → Next fs k j f rest
+taken fs k j f rest one e =
+    let inside : k < length fs = omega (arith, ap length e, length-drop k fs) in
+    let split : f ∷ rest ≡ get_or fs k f ∷ drop (k + 1) fs = sym e ∙ drop_more fs k f inside in
+    record {
+      inside = inside;
+      next = ap (λ l. Some (get_or l 0 f)) split ∙ sym (slice_get-get_or fs k f inside);
+      is = ap (drop 1) split ∙ ap (λ n. drop n fs) (sym one);
+    }
 
 pub all_taken : (fs : List PaperField) (k : ℕ) → drop k fs ≡ [] → length fs ≤ k
-all_taken [] k e = omega arith
-all_taken (f ∷ fs) zero e = cc
-all_taken (f ∷ fs) (suc k) e = let p = all_taken fs k e in omega arith
-
--- the number of what was given, with one more
-pub one_more : {X : Type 0} (xs : List X) (x : X) → length (xs ++ x ∷ []) ≡ length xs + 1
-one_more xs x = length_push xs x
+all_taken fs k e = omega (arith, ap length e, length-drop k fs)

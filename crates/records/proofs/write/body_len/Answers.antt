@@ -1,9 +1,10 @@
 -- Each turn measures one entry.
-use Rattle.std.proofs.Common.{◌≡◌, ◌+◌, length, drop, sym, ap, ◌∙◌, refl, suc, [], ◌∷◌, ◌++◌, arith}
+use Rattle.std.proofs.Common.{◌≡◌, length, sym, ap, ◌∙◌, refl, arith}
+use Rattle.std.proofs.lemmas.List.{length_push}
 use Rattle.partitions.specs.Views.{paper_field}
 use Rattle.records.specs.Left.{entries_left}
 use Rattle.records.proofs.Bodies.{measured_none, measured_more, measured_all}
-use Rattle.records.proofs.Taken.{taken, all_taken, one_more}
+use Rattle.records.proofs.Taken.{taken, all_taken}
 use Rattle.records.proofs.write.body_len.Goals as goal
 
 pub loop-field-init : goal.loop-field-init
@@ -23,13 +24,12 @@ pub loop-field-preserved : goal.loop-field-preserved
 loop-field-preserved g c =
     let fs = (g.R.Recorded.plan c.args.plan.now).fields in
     let k = length c.loop-field.yielded in
-    let p = taken fs k (paper_field c.in-Some.field) _ (sym c.loop-field.invariant.2 ∙ c.in-Some.ensures.steps) in
-    let many : length (c.loop-field.yielded ++ c.in-Some.field ∷ []) ≡ k + 1 = one_more c.loop-field.yielded c.in-Some.field in
-    let same : suc k ≡ length (c.loop-field.yielded ++ c.in-Some.field ∷ []) = omega arith in (
+    let many = length_push c.loop-field.yielded c.in-Some.field in
+    let p = taken fs k _ (paper_field c.in-Some.field) _ many (sym c.loop-field.invariant.2 ∙ c.in-Some.ensures.steps) in (
       tt,
       tt,
-      p.is ∙ ap (λ n. drop n fs) same,
-      omega (arith, p.inside),
+      p.is,
+      omega (arith, many, p.inside),
       measured_more fs k c.loop-field.len c.entry_len-len.result (paper_field c.in-Some.field) p.inside p.next _ _ many refl c.entry_len-len.ensures.len c.entry_len-len.ensures.short
           c.entry_len-len.ensures.fits c.loop-field.invariant.4,
     )

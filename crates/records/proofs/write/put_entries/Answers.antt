@@ -1,10 +1,10 @@
 -- Each turn lends the rest of the output to one entry.
-use Rattle.std.proofs.Common.{◌≡◌, ◌+◌, suc, [], ◌∷◌, ◌++◌, length, drop, sym, refl, ap, ◌∙◌, arith}
-use Rattle.std.proofs.lemmas.List.{length-drop, take_rest}
+use Rattle.std.proofs.Common.{◌≡◌, ◌+◌, length, sym, refl, ap, ◌∙◌, arith}
+use Rattle.std.proofs.lemmas.List.{length_push, length-drop, take_rest}
 use Rattle.partitions.specs.Views.{paper_field}
 use Rattle.records.specs.Left.{entries_left}
 use Rattle.records.proofs.Bodies.{laid_none, within, laid_more, laid_all}
-use Rattle.records.proofs.Taken.{taken, all_taken, one_more}
+use Rattle.records.proofs.Taken.{taken, all_taken}
 use Rattle.records.proofs.write.put_entries.Goals as goal
 use Rattle.records.proofs.write.put_entries.Goals.{In-Some}
 
@@ -24,7 +24,7 @@ pub put_entry-at-requires : goal.put_entry-at-requires
 put_entry-at-requires g c =
     let fs = (g.R.Recorded.plan c.args.plan.now).fields in
     let k = length c.loop-field.yielded in
-    let p = taken fs k (paper_field c.in-Some.field) _ (sym c.loop-field.invariant.2 ∙ c.in-Some.ensures.steps) in
+    let p = taken fs k (k + 1) (paper_field c.in-Some.field) _ refl (sym c.loop-field.invariant.2 ∙ c.in-Some.ensures.steps) in
     let w = within fs k c.loop-field.at c.args.out.now c.loop-field.out (paper_field c.in-Some.field) p.inside p.next c.requires c.loop-field.invariant.3 in
     let rest = ap length (take_rest c.loop-field.out c.loop-field.at) ∙ length-drop c.loop-field.at c.loop-field.out in
     omega arith
@@ -33,12 +33,11 @@ pub loop-field-preserved : goal.loop-field-preserved
 loop-field-preserved g c =
     let fs = (g.R.Recorded.plan c.args.plan.now).fields in
     let k = length c.loop-field.yielded in
-    let p = taken fs k (paper_field c.in-Some.field) _ (sym c.loop-field.invariant.2 ∙ c.in-Some.ensures.steps) in
-    let many : length (c.loop-field.yielded ++ c.in-Some.field ∷ []) ≡ k + 1 = one_more c.loop-field.yielded c.in-Some.field in
-    let same : suc k ≡ length (c.loop-field.yielded ++ c.in-Some.field ∷ []) = omega arith in (
+    let many = length_push c.loop-field.yielded c.in-Some.field in
+    let p = taken fs k _ (paper_field c.in-Some.field) _ many (sym c.loop-field.invariant.2 ∙ c.in-Some.ensures.steps) in (
       tt,
       tt,
-      p.is ∙ ap (λ n. drop n fs) same,
+      p.is,
       laid_more fs k c.loop-field.at c.args.out.now c.loop-field.out (paper_field c.in-Some.field) p.inside p.next c.requires c.loop-field.invariant.3 _ many c.put_entry-at.new.out _
           c.put_entry-at.result _ refl refl c.put_entry-at.ensures.len c.put_entry-at.ensures.after,
     )

@@ -35,11 +35,6 @@ returns-in_err-map_err c =
     (λ r. record { answer : Closes c.args.spec_id start draft self self r; laws : ClosingLaws start draft (paper_closed self).fields (closed_ids self) r })
     (sym q) (record { answer = (refl, s, refl); laws = laws_stuck start draft (paper_closed self).fields (closed_ids self) s })
 
-pub fill-requires : goal.fill-requires
-fill-requires c =
-    let few = few_fields c.as_slice-fields.result.now c.as_slice-fields.ensures.buildable in
-    record { few = few; enough = omega arith }
-
 -- what is filled in is the draft's fields, closed
 module _ (c : After-fill) where
   filled : ClosedAs c.args.start (listed c.args.fields.now) (openeds c.fill.new.closed) (ids_of c.fill.new.closed)

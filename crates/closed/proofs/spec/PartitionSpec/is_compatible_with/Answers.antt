@@ -5,7 +5,7 @@ use Rattle.std.proofs.lemmas.Iterator.{cases_from_all, YieldsList-from_slice, Yi
 use Rattle.closed.specs.Closed.{paper_closed}
 use Rattle.closed.specs.declared.field.PartitionField.{PartitionField}
 use Rattle.closed.proofs.Asked.{rest, compatible_rests, rests_compatible}
-use Rattle.closed.proofs.Viewed.{pairs_decided}
+use Rattle.partitions.proofs.Viewed.{pairs_decided}
 use Rattle.closed.proofs.spec.PartitionSpec.is_compatible_with.Goals as goal
 
 pub returns-then-fields-others : goal.returns-then-fields-others

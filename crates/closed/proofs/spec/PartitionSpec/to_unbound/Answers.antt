@@ -1,6 +1,6 @@
 -- Each turn adds one field.
 use Rattle.std.proofs.Common.{◌∙◌, subst, arith}
-use Rattle.std.proofs.lemmas.List.{length-map, take_all}
+use Rattle.std.proofs.lemmas.List.{length-map}
 use Rattle.partitions.specs.Adds.{Adds}
 use Rattle.partitions.specs.Fields.{PaperField}
 use Rattle.partitions.specs.Specs.{paper_spec}
@@ -21,10 +21,3 @@ loop-field-preserved c =
       c.add_partition_field.ensures.spec_id ∙ c.loop-field.invariant.0,
       added_next (openeds fs) i (opened f) (omega arith) c.fields-fields.ensures.buildable (opened_at fs i f c.loop-field-test.true c.field-item.is) c.add_partition_field.result before after c.loop-field.invariant.1 adds,
     )
-
-pub returns : goal.returns
-returns c =
-    let fs = c.fields-fields.result.now in
-    let size = length-map fs opened in
-    let all = c.loop-field.invariant.1 ∙ take_all c.loop-field.field-index (openeds fs) (omega arith) ∙ c.fields-fields.ensures.same in
-    λ k. record { spec_id = c.loop-field.invariant.0 k; fields = all k }

@@ -1,5 +1,5 @@
 -- As many fields as were taken are there, with their ids.
-use Rattle.std.proofs.Common.{◌≡◌, ◌≤◌, length, take}
+use Rattle.std.proofs.Common.{◌≡◌, length, take}
 use Rattle.partitions.specs.Views.{papers}
 use Rattle.closed.specs.Bare.{bares}
 use Rattle.closed.specs.Opened.{openeds, ids_of}

@@ -6,11 +6,8 @@ use Rattle.closed.specs.Opened.{opened, openeds}
 use Rattle.closed.specs.TypeFaults.{told}
 use Rattle.closed.specs.Typing.{KeptBefore, each_rules}
 use Rattle.closed.proofs.Asked.{opened_at}
-use Rattle.closed.proofs.Typings.{kept_none, kept_more, broken_here, refused_by}
+use Rattle.closed.proofs.Typings.{kept_more, broken_here, refused_by}
 use Rattle.closed.proofs.spec.types.check_types.Goals as goal
-
-pub loop-field-init : goal.loop-field-init
-loop-field-init g c = kept_none (g.S.Schema.columns c.args.schema.now) (openeds c.args.fields.now)
 
 pub returns-in_err-type_of : goal.returns-in_err-type_of
 returns-in_err-type_of g c =
@@ -33,6 +30,3 @@ loop-field-preserved g c =
     let size = length-map fs opened in
     let inside : i < length (openeds fs) = omega arith in
     kept_more (g.S.Schema.columns c.args.schema.now) (openeds fs) i (opened f) inside (opened_at fs i f c.loop-field-test.true c.field-item.is) c.in_ok-type_of.field-0 c.in_ok-type_of.ensures c.loop-field.invariant
-
-pub returns : goal.returns
-returns g c = λ k d l. c.loop-field.invariant k d (omega arith)

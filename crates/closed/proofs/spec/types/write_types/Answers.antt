@@ -1,5 +1,5 @@
 -- Each turn writes one field.
-use Rattle.std.proofs.Common.{◌≡◌, ℕ, ◌+◌, ◌<◌, length, set, sym, refl, subst, arith, w32, SFits, rules}
+use Rattle.std.proofs.Common.{◌≡◌, ◌+◌, ◌<◌, length, set, sym, refl, subst, arith, w32, SFits, rules}
 use Rattle.std.proofs.lemmas.List.{length-map}
 use Rattle.std.proofs.lemmas.Int.{to_z-of_z}
 use Rattle.faults.specs.Rules.{AllKept}
@@ -10,12 +10,9 @@ use Rattle.closed.specs.TypeFaults.{told}
 use Rattle.closed.specs.Typing.{Typed, field_rules}
 use Rattle.closed.specs.declared.types.TypeField.{TypeField}
 use Rattle.closed.proofs.Asked.{opened_at}
-use Rattle.closed.proofs.Typings.{typed_none, typed_more}
+use Rattle.closed.proofs.Typings.{typed_more}
 use Rattle.closed.proofs.spec.types.write_types.Goals as goal
 use Rattle.closed.proofs.spec.types.write_types.Goals.{in-Ok, in_default}
-
-pub loop-place-init : goal.loop-place-init
-loop-place-init g c = typed_none (g.S.Schema.columns c.args.schema.now) (openeds c.args.fields.now) c.args.into.now
 
 pub loop-place-preserved : goal.loop-place-preserved
 loop-place-preserved g c =
@@ -38,6 +35,3 @@ loop-place-preserved g c =
           let kept : AllKept (field_rules columns (opened f)) = subst (λ (p : PaperField). AllKept (field_rules columns p)) (sym at) (c.requires.kept i (opened f) c.loop-place-test.true) in
           absurd (not_both (told w.in_default.field-0) (field_rules columns (opened f)) kept w.in_default.ensures)
     ]
-
-pub returns : goal.returns
-returns g c = let end : c.loop-place.place ≡ length c.args.fields.now = omega arith in subst (λ (n : ℕ). Typed (g.S.Schema.columns c.args.schema.now) (openeds c.args.fields.now) n c.args.into.now c.loop-place.into) end c.loop-place.invariant

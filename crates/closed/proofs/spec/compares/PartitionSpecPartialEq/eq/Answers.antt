@@ -2,11 +2,11 @@
 use Rattle.std.proofs.Common.{◌≡◌, ◌&&◌, Some, sym, ap, ◌∙◌, rules}
 use Rattle.std.specs.Cmp.Lexicographic.{pointwise}
 use Rattle.std.proofs.lemmas.Bool.Decides.{Decides-int_eq}
-use Rattle.partitions.proofs.Same.{views_decided, specs_decided}
+use Rattle.partitions.proofs.Same.{views_decided, specs_decided, views_computed}
 use Rattle.closed.specs.Closed.{paper_closed}
 use Rattle.closed.specs.Equals.{field_eq}
 use Rattle.closed.specs.Opened.{opened}
-use Rattle.closed.proofs.Same.{field_eq-Decides, spec_eq-Decides, fields_computed}
+use Rattle.closed.proofs.Same.{field_eq-Decides, spec_eq-Decides}
 use Rattle.closed.proofs.spec.compares.PartitionSpecPartialEq.eq.Goals as goal
 
 pub returns-then-self-other-clause-decides : goal.returns-then-self-other-clause-decides
@@ -17,7 +17,7 @@ returns-then-self-other-clause-decides c =
 
 pub returns-then-self-other-clause-value : goal.returns-then-self-other-clause-value
 returns-then-self-other-clause-value c =
-    let fields = fields_computed c.fields.result.now c.fields-then-self-other.result.now c.args.self.now.fields c.args.other.now.fields c.eq.result c.fields.ensures.same c.fields-then-self-other.ensures.same c.eq.ensures in
+    let fields = views_computed opened field_eq field_eq-Decides c.fields.result.now c.fields-then-self-other.result.now c.args.self.now.fields c.args.other.now.fields c.eq.result c.fields.ensures.same c.fields-then-self-other.ensures.same c.eq.ensures in
     let ids : c.args.self.now.spec_id ≡ c.args.other.now.spec_id = search rules in
     fields ∙ ap (λ b. b && pointwise field_eq c.args.self.now.fields c.args.other.now.fields) (sym ((Decides-int_eq c.args.self.now.spec_id c.args.other.now.spec_id).1 ids))
 
