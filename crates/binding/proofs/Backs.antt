@@ -19,15 +19,12 @@ use Rattle.drafts.proofs.Accepting.{accepted}
 use Rattle.drafts.proofs.Closings.{all_admitted}
 use Rattle.drafts.proofs.Deciding.{one_answer}
 use Rattle.drafts.proofs.Reached.{admitted_on_every}
+use Rattle.drafts.proofs.Taken.{no_fields}
 use Rattle.records.proofs.Unique.{record_unique}
 use Rattle.binding.specs.Backs.{ClosedFrom, BoundBack, ReadAndBoundBack, FitOnEverySchemaThatShowsTheSame}
 use Rattle.binding.specs.Binds.{drafted, Takes, ClosesTaken, Binds}
 use Rattle.binding.specs.declared.fault.BindFault.{BindFault}
 use Rattle.binding.specs.declared.fault.BindFault.TheVariants.{Batch, Draft}
-
-no_fields : (id : Option ℤ) → (identified id).fields ≡ []
-no_fields None = refl
-no_fields (Some id) = refl
 
 module _ (c : Columns) (s : PaperSpec) (b : Buildable s.fields) (calls : List Call) (answers : List Answer) (from : ClosedFrom calls answers s) (suits : Suits c calls) where
   -- the columns admit the fields, since they admitted the draft's

@@ -25,15 +25,10 @@ AdmittedBefore c fs n = (k : ℕ) (d : PaperField) → k < n → Admitted c (get
 abbrev pub some_field : PaperField
 some_field = field_of (pos 0) None [] Void
 
-module _ (c : Columns) (fs : List PaperField) where
-  pub none_yet : AdmittedBefore c fs 0
-  none_yet k d l = absurd (omega arith)
-
-  admitted_below : (n : ℕ) → length fs ≤ n → AdmittedBefore c fs n → AllByRecursion (Admitted c) fs
-  admitted_below n h b = All-from_get_or (Admitted c) fs some_field (λ k l. b k some_field (omega arith))
-
 pub all_admitted : (c : Columns) (us : List UnboundPartitionField) (n : ℕ) → length us ≤ n → AdmittedBefore c (papers us) n → AllByRecursion (Admitted c) (papers us)
-all_admitted c us n h b = admitted_below c (papers us) n (subst (λ m. m ≤ n) (sym (length-map us paper_field)) h) b
+all_admitted c us n h b =
+    let size = length-map us paper_field in
+    All-from_get_or (Admitted c) (papers us) some_field (λ k l. b k some_field (omega arith))
 
 -- the field that is read at i, as it is kept and on paper
 module _ (c : Columns) (us : List UnboundPartitionField) (i : ℕ) (u : UnboundPartitionField) (l : i < length us) (is : u ≡ get_or us i u) (b : AdmittedBefore c (papers us) i) (f : PaperField) (seen : f ≡ paper_field u) where

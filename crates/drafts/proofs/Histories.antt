@@ -9,6 +9,6 @@ one_more p q r call answer [] (a ∷ answers) s h = absurd h
 one_more p q r call answer (c ∷ calls) [] s h = absurd h
 one_more p q r call answer (c ∷ calls) (a ∷ answers) s h = (h.0, (h.1.0, one_more h.0 q r call answer calls answers s h.1.1))
 
--- a step, and every history with it
-pub stepped : (p q : Paper) (call : Call) (answer : Answer) → Step p call answer q → record { step : Step p call answer q; history : Continues p call answer q }
-stepped p q call answer s = record { step = s; history = λ calls answers h. one_more blank_paper p q call answer calls answers s h }
+-- a step goes on every history
+pub continued : (p q : Paper) (call : Call) (answer : Answer) → Step p call answer q → Continues p call answer q
+continued p q call answer s = λ calls answers h. one_more blank_paper p q call answer calls answers s h

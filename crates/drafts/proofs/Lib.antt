@@ -1,7 +1,6 @@
 pub mod Bounding
 pub mod Admitting
 pub mod Histories
-pub mod Steps
 pub mod Columned
 pub mod Reached
 pub mod Accepting

@@ -1,7 +1,7 @@
 -- What holds of the fields of every draft that calls lead to: the columns of a suiting schema admit them. Assumes nothing.
-use Rattle.std.proofs.Common.{◌≡◌, ℕ, Bool, true, false, List, [], ◌∷◌, ◌++◌, get_or, take, is_some, IsSomeAnd, Some, None, Option, sym, refl, ap, ◌∙◌, subst}
+use Rattle.std.proofs.Common.{◌≡◌, ℕ, true, false, List, [], ◌∷◌, ◌++◌, get_or, take, is_some, IsSomeAnd, Some, None, Option, sym, refl, ap, ◌∙◌, subst}
 use Rattle.std.proofs.ByRecursion.{All-append, All-push, All-from_get_or, All-weaker}
-use Rattle.std.proofs.lemmas.Bool.{false≢true}
+use Rattle.std.proofs.lemmas.Bool.{false≢true, true_from_ne_false, false_from_ne_true}
 use Rattle.std.specs.Option.{option_to_list}
 use Rattle.std.specs.List.{AllByRecursion}
 use Rattle.faults.specs.Rules.{Rule, AllKept}
@@ -72,14 +72,6 @@ module _ (c : Columns) where
   run (call ∷ calls) (answer ∷ answers) p q s h r =
       run calls answers r.0 q s.1 (own_step call p r.0 answer h (step_by_columns c p r.0 call answer s.0 r.1.0)) r.1.1
 
-not_false : (b : Bool) → (b ≡ false → ⊥) → b ≡ true
-not_false true n = refl
-not_false false n = absurd (n refl)
-
-not_true : (b : Bool) → (b ≡ true → ⊥) → b ≡ false
-not_true true n = absurd (n refl)
-not_true false n = refl
-
 not_none : {X : Type 0} (o : Option X) → (o ≡ None → ⊥) → is_some o ≡ true
 not_none None n = absurd (n refl)
 not_none (Some x) n = refl
@@ -105,8 +97,8 @@ by_source c f (Some source) e known primitive unmarked fit = record {
   source = source;
   found = e;
   result = result f.transform source.field_type (λ v n. fit (v, n));
-  primitive = λ v. not_false _ (λ n. primitive (v, n));
-  unmarked = λ v. not_true _ (λ n. unmarked (v, n));
+  primitive = λ v. true_from_ne_false _ (λ n. primitive (v, n));
+  unmarked = λ v. false_from_ne_true _ (λ n. unmarked (v, n));
 }
 
 pub fits : (c : Columns) (f : PaperField) → Admitted c f → Fits c f

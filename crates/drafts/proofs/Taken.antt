@@ -25,7 +25,7 @@ Takes c s r =
       fields : IfOk r (λ d. paper d ≡ with_fields s.fields (identified s.spec_id));
     }
 
-no_fields : (id : Option ℤ) → (identified id).fields ≡ []
+pub no_fields : (id : Option ℤ) → (identified id).fields ≡ []
 no_fields None = refl
 no_fields (Some id) = refl
 

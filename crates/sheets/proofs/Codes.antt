@@ -1,5 +1,5 @@
 -- A column and its bytes: each type stands at its code, and each has the parameters that are read.
-use Rattle.std.proofs.Common.{◌≡◌, ℕ, zero, suc, ◌+◌, ◌*◌, ◌/◌, ◌%◌, ◌^◌, ◌<◌, Bool, true, false, leb, List, [], ◌∷◌, get_or, drop, Some, None, sym, refl, ap, ◌∙◌, subst, ⊎_elim, arith, lit<}
+use Rattle.std.proofs.Common.{◌≡◌, ℕ, zero, suc, ◌+◌, ◌*◌, ◌/◌, ◌%◌, ◌^◌, ◌<◌, Bool, true, false, leb, List, [], ◌∷◌, get_or, drop, Some, None, sym, refl, ap, ◌∙◌, subst, ⊎_elim, arith, rules, lit<}
 use Rattle.std.specs.List.{slice_get}
 use Rattle.std.proofs.lemmas.Option.{slice_get_past, slice_get-get_or}
 use Rattle.std.proofs.lemmas.Bool.{cases_lt, le-leb, lt-leb}
@@ -78,49 +78,8 @@ plain t f = record { code = refl; fits = f }
 all_coded : (n : ℕ) → n < 2 ^ 64 → EachFrom Coded 0 (types n)
 all_coded n h =
     let low : n % 4294967296 < 2 ^ 32 = omega arith in
-    let high : n / 4294967296 < 2 ^ 32 = omega arith in (
-      plain _ tt,
-      (
-        plain _ tt,
-        (
-          plain _ tt,
-          (
-            plain _ tt,
-            (
-              plain _ tt,
-              (
-                plain _ (high, low),
-                (
-                  plain _ tt,
-                  (
-                    plain _ tt,
-                    (
-                      plain _ tt,
-                      (
-                        plain _ tt,
-                        (
-                          plain _ tt,
-                          (
-                            plain _ tt,
-                            (
-                              plain _ tt,
-                              (
-                                plain _ tt,
-                                (plain _ h, (plain _ tt, (plain (Struct _) (lit< tt, low), (plain (Listed _) (lit< tt, low), (plain (Map _) (lit< tt, low), tt))))),
-                              ),
-                            ),
-                          ),
-                        ),
-                      ),
-                    ),
-                  ),
-                ),
-              ),
-            ),
-          ),
-        ),
-      ),
-    )
+    let high : n / 4294967296 < 2 ^ 32 = omega arith in
+    search (rules, plain, lit<)
 
 pub coded : (n k : ℕ) (t : ColumnType) → n < 2 ^ 64 → slice_get (types n) k ≡ Some t → Coded k t
 coded n k t h e = let r = each_nth Coded 0 k (types n) t (all_coded n h) e in subst (λ j. Coded j t) (omega arith) r

@@ -1,10 +1,7 @@
 -- Each turn passes a field that the columns admit.
-use Rattle.partitions.specs.Views.{papers, seen}
-use Rattle.drafts.proofs.Admitting.{none_yet, one_more, not_admitted, all_admitted}
+use Rattle.partitions.specs.Views.{seen}
+use Rattle.drafts.proofs.Admitting.{one_more, not_admitted, all_admitted}
 use Rattle.drafts.proofs.bound.OnSchema.check_all.Goals as goal
-
-pub loop-index-init : goal.loop-index-init
-loop-index-init g c = none_yet (g.S.Schema.columns c.args.self.now.schema.now) (papers c.args.fields.now)
 
 pub returns-in-Err : goal.returns-in-Err
 returns-in-Err g c =

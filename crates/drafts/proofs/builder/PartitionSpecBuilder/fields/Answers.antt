@@ -3,5 +3,5 @@ use Rattle.drafts.specs.Drafts.{paper}
 use Rattle.drafts.proofs.Reached.{admitted_on_every}
 use Rattle.drafts.proofs.builder.PartitionSpecBuilder.fields.Goals as goal
 
-pub returns : goal.returns
-returns c = record { same = c.as_slice.ensures.same; buildable = c.as_slice.ensures.buildable; fit = admitted_on_every (paper c.args.self.now) }
+pub returns-clause-fit : goal.returns-clause-fit
+returns-clause-fit c = admitted_on_every (paper c.args.self.now)

@@ -1,14 +1,7 @@
--- The id is what was passed, and the rest stays.
-use Rattle.std.proofs.Common.{None, w32, SFits}
-use Rattle.std.proofs.lemmas.Int.{to_z-of_z}
-use Rattle.drafts.specs.Calls.{Call}
-use Rattle.drafts.specs.Drafts.{paper}
-use Rattle.drafts.specs.Paper.{with_spec_id}
-use Rattle.drafts.proofs.Histories.{stepped}
+-- A change of the id goes on a history.
+use Rattle.std.proofs.Common.{rules}
+use Rattle.drafts.proofs.Histories.{continued}
 use Rattle.drafts.proofs.builder.PartitionSpecBuilder.with_spec_id.Goals as goal
 
-pub returns : goal.returns
-returns c =
-    let fits : SFits w32 c.args.spec_id = c.ranges.spec_id in
-    let p = paper c.args.self.now in
-    stepped p _ (Call.set_spec_id c.args.spec_id) None (tt, λ i. with_spec_id (to_z-of_z w32 c.args.spec_id fits i) p)
+pub returns-clause-history : goal.returns-clause-history
+returns-clause-history c = continued _ _ _ _ (search rules)
