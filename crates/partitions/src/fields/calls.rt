@@ -47,6 +47,8 @@ impl FieldList {
     }
 
     // Whatever the list has become, it is one that adds can make.
+    // kept: `buildable` is a clause here, of an unbound spec and of a draft, which hand this slice out: there it is no plainer
+    // as a type of slice of its own
     pub fn as_slice(&self) -> &[UnboundPartitionField]
         ensures same { papers result.now ≡ listed self.now }
         ensures buildable { Buildable (papers result.now) }
