@@ -234,6 +234,7 @@ fn sort(
     }))
 }
 
+// kept: a function for each of the two enums, no plainer as one over both, since words and cases are each its own
 fn read_direction(word: &str) -> Result<SortDirection, ScriptFault> {
     match word {
         "asc" => Ok(SortDirection::Ascending),
