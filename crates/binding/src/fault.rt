@@ -4,7 +4,6 @@ ghost use Rattle.binding.specs.BindFaults.{told};
 ghost use Rattle.binding.specs.declared.fault.BindFault.TheVariants.{Batch, Draft};
 
 use faults::Fault;
-use faults::error::{ErrorKind, Layer};
 use faults::refusal::Refusal;
 use partitions::batch::BatchFault;
 use partitions::fault::DraftFault;

@@ -12,7 +12,8 @@ use numbering::Identified;
 use partitions::field::UnboundPartitionField;
 use transforms::transform::Transform;
 
-// kept: a type beside the unbound field, as in the published crate, so that no place asks whether an id is there
+// kept: no plainer as one generic Field<Id, Name> with unbound fields, views and fields of batches: each has methods and impls
+// of its own, which such a type would have at one instance only, and another crate than its own could give it none
 #[derive(Clone, Copy)]
 pub struct PartitionField {
     pub source_id: i32,
@@ -52,7 +53,7 @@ impl From<PartitionField> for UnboundPartitionField {
     }
 }
 
-// kept: a derive promises only `value`
+// kept: no plainer: a derived `==` promises `value` alone, and `decides` and `exactly` must stay
 impl PartialEq for PartitionField {
     ghost eq = { field_eq };
 

@@ -19,6 +19,7 @@ mod types;
 pub struct PartitionSpec {
     spec_id: i32,
     fields: Bounded<PartitionField, MAX_FIELDS>,
+    // kept: as in FieldList, since it is said of every spec, with no call
     ghost few: { length fields ≤ 64 },
     ghost names: { Apart SameName (openeds fields) },
     ghost sources: { Apart BothAlike (openeds fields) },

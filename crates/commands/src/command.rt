@@ -78,90 +78,105 @@ impl Command {
             return Ok(None);
         }
         let verb: Verb = first.parse()?;
+        let words = Words { heap, verb, rest };
         let command = match verb {
             Verb::Column | Verb::Columns | Verb::Regular | Verb::Sheet | Verb::Select => {
-                of_columns(heap, verb, rest)?
+                words.of_columns()?
             }
             Verb::SortNew | Verb::SortId | Verb::Sort | Verb::SortBuild | Verb::SortBuildUnbound =>
-                of_sort(heap, verb, rest)?,
+                words.of_sort()?,
             Verb::Name
             | Verb::Transform
             | Verb::Strict
             | Verb::Result
             | Verb::Preserves
             | Verb::Satisfies
-            | Verb::Alike => of_text(heap, verb, rest)?,
-            _ => of_draft(heap, verb, rest)?,
+            | Verb::Alike => words.of_text()?,
+            _ => words.of_draft()?,
         };
         Ok(Some(command))
     }
 }
 
-fn of_columns(heap: Global, verb: Verb, rest: &[&str]) -> Result<Command, ScriptFault> {
-    match (verb, rest) {
-        (Verb::Column, [id, word, name]) => column(heap, id, word, name, false),
-        (Verb::Column, [id, word, name, "marked"]) => column(heap, id, word, name, true),
-        (Verb::Columns, ["clear"]) => Ok(Command::ColumnsClear),
-        (Verb::Regular, []) => Ok(Command::Regular),
-        (Verb::Sheet, [digits]) => Ok(Command::Sheet(hex(heap, digits)?)),
-        (Verb::Select, ["all"]) => Ok(Command::SelectAll),
-        (Verb::Select, [_, ..]) => select(heap, rest),
-        _ => Err(ScriptFault::BadCommand),
-    }
+// A line's verb, and the words after it.
+#[derive(Drop)]
+struct Words<'a> {
+    heap: Global,
+    verb: Verb,
+    rest: &'a [&'a str],
 }
 
-fn of_text(heap: Global, verb: Verb, rest: &[&str]) -> Result<Command, ScriptFault> {
-    match (verb, rest) {
-        (Verb::Name, [name]) => Ok(Command::Name(bytes(heap, name)?)),
-        (Verb::Transform, [text]) => Ok(Command::Transform(bytes(heap, text)?)),
-        (Verb::Strict, [text]) => Ok(Command::Strict(bytes(heap, text)?)),
-        (Verb::Result, [text, word]) => result_type(heap, text, word),
-        (Verb::Preserves, [text]) => Ok(Command::Preserves(bytes(heap, text)?)),
-        (Verb::Satisfies, [text, other]) => {
-            Ok(Command::Satisfies(bytes(heap, text)?, bytes(heap, other)?))
+impl Words<'_> {
+    fn of_columns(&self) -> Result<Command, ScriptFault> {
+        let heap = self.heap;
+        match (self.verb, self.rest) {
+            (Verb::Column, [id, word, name]) => column(heap, id, word, name, false),
+            (Verb::Column, [id, word, name, "marked"]) => column(heap, id, word, name, true),
+            (Verb::Columns, ["clear"]) => Ok(Command::ColumnsClear),
+            (Verb::Regular, []) => Ok(Command::Regular),
+            (Verb::Sheet, [digits]) => Ok(Command::Sheet(hex(heap, digits)?)),
+            (Verb::Select, ["all"]) => Ok(Command::SelectAll),
+            (Verb::Select, [_, ..]) => select(heap, self.rest),
+            _ => Err(ScriptFault::BadCommand),
         }
-        (Verb::Alike, [text, other]) => Ok(Command::Alike(bytes(heap, text)?, bytes(heap, other)?)),
-        _ => Err(ScriptFault::BadCommand),
     }
-}
 
-fn of_draft(heap: Global, verb: Verb, rest: &[&str]) -> Result<Command, ScriptFault> {
-    match (verb, rest) {
-        (Verb::Draft, []) => Ok(Command::Draft),
-        (Verb::Unbound, []) => Ok(Command::Unbound),
-        (Verb::SpecId, [word]) => Ok(Command::SpecId(word.parse()?)),
-        (Verb::Add, [source, field, name, text]) => add(heap, source, field, name, text),
-        (Verb::Batch, [word]) => Ok(Command::Batch(word.parse()?)),
-        (Verb::Close, []) => Ok(Command::Close),
-        (Verb::RecordUnbound, []) => Ok(Command::RecordUnbound),
-        (Verb::Read, [digits]) => Ok(Command::Read(hex(heap, digits)?)),
-        (Verb::Items, [digits]) => Ok(Command::Items(hex(heap, digits)?)),
-        (
-            Verb::Draft
-            | Verb::Unbound
-            | Verb::SpecId
-            | Verb::Add
-            | Verb::Batch
-            | Verb::Close
-            | Verb::RecordUnbound
-            | Verb::Read
-            | Verb::Items,
-            _,
-        ) => Err(ScriptFault::BadCommand),
-        _ => Ok(Command::Later),
-    }
-}
-
-fn of_sort(heap: Global, verb: Verb, rest: &[&str]) -> Result<Command, ScriptFault> {
-    match (verb, rest) {
-        (Verb::SortNew, []) => Ok(Command::SortNew),
-        (Verb::SortId, [word]) => Ok(Command::SortId(word.parse()?)),
-        (Verb::Sort, [source, text, direction, nulls]) => {
-            sort(heap, source, text, direction, nulls)
+    fn of_text(&self) -> Result<Command, ScriptFault> {
+        let heap = self.heap;
+        match (self.verb, self.rest) {
+            (Verb::Name, [name]) => Ok(Command::Name(bytes(heap, name)?)),
+            (Verb::Transform, [text]) => Ok(Command::Transform(bytes(heap, text)?)),
+            (Verb::Strict, [text]) => Ok(Command::Strict(bytes(heap, text)?)),
+            (Verb::Result, [text, word]) => result_type(heap, text, word),
+            (Verb::Preserves, [text]) => Ok(Command::Preserves(bytes(heap, text)?)),
+            (Verb::Satisfies, [text, other]) => {
+                Ok(Command::Satisfies(bytes(heap, text)?, bytes(heap, other)?))
+            }
+            (Verb::Alike, [text, other]) => Ok(Command::Alike(bytes(heap, text)?, bytes(heap, other)?)),
+            _ => Err(ScriptFault::BadCommand),
         }
-        (Verb::SortBuild, []) => Ok(Command::SortBuild),
-        (Verb::SortBuildUnbound, []) => Ok(Command::SortBuildUnbound),
-        _ => Err(ScriptFault::BadCommand),
+    }
+
+    fn of_draft(&self) -> Result<Command, ScriptFault> {
+        let heap = self.heap;
+        match (self.verb, self.rest) {
+            (Verb::Draft, []) => Ok(Command::Draft),
+            (Verb::Unbound, []) => Ok(Command::Unbound),
+            (Verb::SpecId, [word]) => Ok(Command::SpecId(word.parse()?)),
+            (Verb::Add, [source, field, name, text]) => add(heap, source, field, name, text),
+            (Verb::Batch, [word]) => Ok(Command::Batch(word.parse()?)),
+            (Verb::Close, []) => Ok(Command::Close),
+            (Verb::RecordUnbound, []) => Ok(Command::RecordUnbound),
+            (Verb::Read, [digits]) => Ok(Command::Read(hex(heap, digits)?)),
+            (Verb::Items, [digits]) => Ok(Command::Items(hex(heap, digits)?)),
+            (
+                Verb::Draft
+                | Verb::Unbound
+                | Verb::SpecId
+                | Verb::Add
+                | Verb::Batch
+                | Verb::Close
+                | Verb::RecordUnbound
+                | Verb::Read
+                | Verb::Items,
+                _,
+            ) => Err(ScriptFault::BadCommand),
+            _ => Ok(Command::Later),
+        }
+    }
+
+    fn of_sort(&self) -> Result<Command, ScriptFault> {
+        let heap = self.heap;
+        match (self.verb, self.rest) {
+            (Verb::SortNew, []) => Ok(Command::SortNew),
+            (Verb::SortId, [word]) => Ok(Command::SortId(word.parse()?)),
+            (Verb::Sort, [source, text, direction, nulls]) => {
+                sort(heap, source, text, direction, nulls)
+            }
+            (Verb::SortBuild, []) => Ok(Command::SortBuild),
+            (Verb::SortBuildUnbound, []) => Ok(Command::SortBuildUnbound),
+            _ => Err(ScriptFault::BadCommand),
+        }
     }
 }
 
@@ -172,7 +187,7 @@ fn column(
     name: &str,
     is_marked: bool,
 ) -> Result<Command, ScriptFault> {
-    let field_type = read_type(word).ok_or(ScriptFault::BadCommand)?;
+    let field_type = read_type(word)?;
     let id = number.parse()?;
     let name = bytes(heap, name)?;
     Ok(Command::Column(ColumnLine {
@@ -192,7 +207,7 @@ fn select(heap: Global, words: &[&str]) -> Result<Command, ScriptFault> {
 }
 
 fn result_type(heap: Global, text: &str, word: &str) -> Result<Command, ScriptFault> {
-    let input = read_type(word).ok_or(ScriptFault::BadCommand)?;
+    let input = read_type(word)?;
     Ok(Command::ResultType(bytes(heap, text)?, input))
 }
 

@@ -1,4 +1,5 @@
 // Words that stand for types.
+use crate::fault::ScriptFault;
 use transforms::datatypes::{PrimitiveType, Type};
 
 // The primitive types that have no parameters.
@@ -20,9 +21,12 @@ const PLAIN: [PrimitiveType; 14] = [
 ];
 
 // A type by its word, with its parameters: int, decimal(9,2), fixed[16], list, list@4.
-// kept: a function and not FromStr, here and for orders: the types are another crate's, and the words are the script's
-pub fn read_type(word: &str) -> Option<Type> {
-    read_nested(word).or_else(|| read_primitive(word).map(Type::Primitive))
+// kept: no plainer: FromStr can't be implemented here, since it and the types are other crates', and the words are the script's;
+// so too `read_direction` and `read_nulls`
+pub fn read_type(word: &str) -> Result<Type, ScriptFault> {
+    read_nested(word)
+        .or_else(|| read_primitive(word).map(Type::Primitive))
+        .ok_or(ScriptFault::BadCommand)
 }
 
 fn read_primitive(word: &str) -> Option<PrimitiveType> {

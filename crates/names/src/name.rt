@@ -20,7 +20,7 @@ pub enum NameFault {
 }
 
 // A good name, held in place: its bytes are the first `len`.
-// kept: fixed memory; a name is Copy and no add of one wants memory, and the kit's ArrayVec is not Copy.
+// kept: fixed memory: a name is held in place and copied, and wants no heap; the kit's ArrayVec is not Copy
 #[derive(Clone, Copy)]
 pub struct Name {
     bytes: [u8; MAX_LEN],
@@ -30,7 +30,7 @@ pub struct Name {
 }
 
 // Where a name's bytes lie in an area.
-// kept: a place and not the bytes, since that it passes the area's end is a case with an answer of its own
+// kept: no plainer as a slice: that the place passes the area's end is a refusal of its own, which a slice could not tell
 #[derive(Clone, Copy, PartialEq, Eq)]
 pub struct NamePlace {
     pub start: usize,

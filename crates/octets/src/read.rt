@@ -1,4 +1,5 @@
 // Numbers read at a place of bytes: none where they pass the end.
+// kept: bytes and a place beside each other, no plainer as a struct, since that pair is what the promise `ReadAt` speaks of
 ghost use Rattle.octets.specs.BigEndian.{be2, be4, be8, be_id};
 ghost use Rattle.octets.specs.Octets.{ReadAt};
 

@@ -27,7 +27,7 @@ pub struct FieldView<'a> {
 }
 
 impl UnboundPartitionField {
-    // kept: no plainer by From, which would have to say of which reference
+    // kept: no plainer by From: an impl for a reference has to name its lifetime, and `view` needs none
     pub fn view(&self) -> FieldView<'_>
         ensures { seen result ≡ paper_field self.now }
     {
@@ -40,7 +40,7 @@ impl UnboundPartitionField {
     }
 }
 
-// kept: a derive promises only `value`, and `decides` and `exactly` say what that is of the field on paper
+// kept: no plainer: a derived `==` promises `value` alone, and `decides` and `exactly` must stay
 impl PartialEq for UnboundPartitionField {
     ghost eq = { field_eq };
 

@@ -15,6 +15,7 @@ mod calls;
 #[derive(Drop)]
 pub struct FieldList {
     fields: Bounded<UnboundPartitionField, MAX_FIELDS>,
+    // kept: no plainer without: Bounded keeps it too, and tells it in a call alone, but it is said of every list, with no call
     ghost few: { length fields ≤ 64 },
     ghost names: { Apart SameName (papers fields) },
     ghost sources: { Apart BothAlike (papers fields) },

@@ -71,7 +71,7 @@ impl UnboundPartitionSpec {
     }
 }
 
-// kept: a derive promises only `value`, and `decides` and `exactly` say what that is of the spec on paper
+// kept: no plainer: a derived `==` promises `value` alone, and `decides` and `exactly` must stay
 impl PartialEq for UnboundPartitionSpec {
     ghost eq = { spec_eq };
 

@@ -30,7 +30,8 @@ pub trait CorePartitionSpecValidator {
     fn first<S: Sought>(&self, sought: &S) -> Option<usize>
         ensures { Finds (S.Sought.meets sought.now) (held self.now) result }
     {
-        // kept: by index, since a holder is asked field by field, and has no list of them to walk
+        // kept: tried as a `find` over the indices, and the proof did not close: its closure asks the holder, and what it answers is
+        // not told of the fields on paper
         for index in 0..self.field_count() {
             if let Some(field) = self.field_at(index) {
                 if sought.is(&field) {

@@ -69,7 +69,7 @@ fn play_file(rt: &HostRuntime, path: &str) -> anyhow::Result<()> {
 
 // What was made, or its error with the path that it is about.
 fn about<T>(rt: &HostRuntime, path: &str, made: anyhow::Result<T>) -> anyhow::Result<T> {
-    // kept: no plainer with map_err, in whose closure the message could not want memory
+    // kept: no plainer with map_err: making the message can run out of memory, and `?` does not leave a closure
     match made {
         Ok(made) => Ok(made),
         Err(e) => Err(anyhow!(format!(in rt.alloc(); "{e}: {path}")?)),

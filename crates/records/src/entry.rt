@@ -55,7 +55,7 @@ pub(crate) fn flag_bytes(id: Option<i32>) -> [u8; 5]
     ensures bytes { result ≡ flagged id }
     ensures fits { IdFits id }
 {
-    // kept: no plainer, because `map_or` would only turn the two cases
+    // kept: no plainer: `map_or` would say the same two cases in the other order
     match id {
         None => [0, 0, 0, 0, 0],
         Some(id) => {
@@ -81,7 +81,7 @@ fn head(field: &UnboundPartitionField) -> [u8; 10]
 }
 
 // Prints the transform to the front of the room, which is long enough for every text, and answers the text's length.
-// kept: fixed memory, so a text is as long as is told beside its room
+// kept: fixed memory, so the text's length is told beside its room
 fn print_in(transform: Transform, room: &mut [u8]) -> usize
     requires { 20 ≤ length room.old }
     ensures text { take result room.new ≡ printed transform }

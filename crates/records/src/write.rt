@@ -14,6 +14,7 @@ use crate::recorded::Recorded;
 const TRAILER_LEN: usize = 8;
 
 // Writes the record to the front of the output, and answers its length.
+// kept: fixed memory, the caller's output
 pub fn write<R: Recorded>(plan: &R, out: &mut [u8]) -> Result<usize, RecordFault>
     ensures written { Written (record_bytes (R.Recorded.plan plan.now)) out.old out.new result }
     ensures of_plan { IfOk result (λ n. RecordOf (take n out.new) (R.Recorded.plan plan.now)) }
@@ -55,6 +56,7 @@ fn trailer_of<R: Recorded>(plan: &R, distance: u16) -> [u8; 8]
     let id = flag_bytes(plan.recorded_id());
     let count = plan.entry_count() as u8;
     let back = distance.to_be_bytes();
+    // kept: no plainer, because arrays have no concatenation that gives an array
     [id[0], id[1], id[2], id[3], id[4], count, back[0], back[1]]
 }
 
@@ -66,6 +68,7 @@ fn body_len<R: Recorded>(plan: &R) -> usize
     ensures buildable { Buildable (R.Recorded.plan plan.now).fields }
 {
     let mut len = 0;
+    // kept: no plainer as a sum, whose bound comes entry by entry
     for field in plan.entries() {
         len += entry_len(&field);
     }

@@ -20,7 +20,8 @@ pub struct Columns {
 }
 
 // What is asked of whatever schema the script has.
-// kept: a closure cannot be generic over the schema that it is asked of, and a trait with one generic method can
+// kept: no plainer: a closure can't be generic over the schema that it is given, the calls want a type and not a `dyn Schema`, and
+// a trait with one generic method is both
 pub trait Question {
     fn ask<S: Schema>(&self, schema: &S) -> Result<Answer, ScriptFault>;
 }

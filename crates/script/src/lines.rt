@@ -90,7 +90,7 @@ fn write_name<W: fmt::Write>(name: &[u8], f: &mut fmt::Formatter<W>) -> fmt::Res
         return write_hex(name, f);
     }
     for b in name {
-        f.write_char(*b as char)?;
+        f.write_char(char::from(*b))?;
     }
     Ok(())
 }

@@ -71,7 +71,7 @@ fn width(text: &[u8]) -> Result<u32, TextFault>
     }
 }
 
-// kept: two functions, and so is `before_close`: one works from the front and one from the back
+// kept: no plainer as one with `before_close`: one takes brackets from the front and one from the back
 fn past_open(text: &[u8]) -> &[u8]
     ensures { OpenGone text.now result.now }
 {

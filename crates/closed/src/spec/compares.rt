@@ -22,7 +22,7 @@ impl PartitionSpec {
     }
 }
 
-// kept: a derive promises only `value`
+// kept: no plainer: a derived `==` promises `value` alone, and `decides` and `exactly` must stay
 impl PartialEq for PartitionSpec {
     ghost eq = { spec_eq };
 

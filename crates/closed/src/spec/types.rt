@@ -15,6 +15,7 @@ use transforms::datatypes::Type;
 impl PartitionSpec {
     // Writes a field of the type for each field, and says how many there are. Nothing is written where a field has no
     // type, or where the list is too short.
+    // kept: fixed memory, the caller's list, of which the front is written
     pub fn partition_type<S: Schema>(
         &self,
         schema: &S,
@@ -48,7 +49,7 @@ fn write_types<S: Schema>(schema: &S, fields: &[PartitionField], into: &mut [Typ
     requires room { length fields.now ≤ length into.old }
     ensures { Typed (S.Schema.columns schema.now) (openeds fields.now) (length fields.now) into.old into.new }
 {
-    // kept: no plainer, because each place is written as well as written to
+    // kept: no plainer: the place is part of what is written, so the index is wanted anyway
     for (place, field) in fields.iter().enumerate() {
         if let Ok(result_type) = type_of(schema, field) {
             into[place] = TypeField {

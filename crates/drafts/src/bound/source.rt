@@ -18,13 +18,10 @@ impl<'a, S: Schema> OnSchema<'a, S> {
         ensures { AdmitsAll (S.Schema.columns self.now.schema.now) (papers fields.now) result }
     {
         for (index, field) in fields.iter().enumerate() {
-            // kept: no plainer with map_err, whose closure would take the index in
-            if let Err(fault) = self.check_source(&field.view()) {
-                return Err(BatchFault {
-                    index,
-                    cause: BatchCause::Add(fault),
-                });
-            }
+            self.check_source(&field.view()).map_err(|fault| BatchFault {
+                index,
+                cause: BatchCause::Add(fault),
+            })?;
         }
         Ok(())
     }

@@ -32,7 +32,7 @@ impl Name {
     }
 }
 
-// kept: no plainer, because a derive would compare the spare bytes and promise no more than `value`.
+// kept: no plainer: a derived `==` would compare the spare bytes, and promise `value` alone, where `decides` must stay
 impl PartialEq for Name {
     ghost eq = { on name_bytes (pointwise nat_eq) };
 

@@ -47,8 +47,8 @@ impl FieldList {
     }
 
     // Whatever the list has become, it is one that adds can make.
-    // kept: `buildable` is a clause here, of an unbound spec and of a draft, which hand this slice out: there it is no plainer
-    // as a type of slice of its own
+    // kept: no plainer: `buildable` stands wherever fields are handed out (here, of specs, drafts, closed specs and plans), and a
+    // type of slice of its own would be unwrapped at each use
     pub fn as_slice(&self) -> &[UnboundPartitionField]
         ensures same { papers result.now ≡ listed self.now }
         ensures buildable { Buildable (papers result.now) }

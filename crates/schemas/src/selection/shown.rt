@@ -12,11 +12,8 @@ impl<'a, S: Schema> Schema for Selection<'a, S> {
     ghost sound = { λ s. selected_sound s.ids (S.Schema.columns s.under.now) (S.Schema.sound s.under.now) };
 
     fn field_by_id(&self, id: i32) -> Option<Column> {
-        if is_among(self.ids.as_slice(), id) {
-            self.under.field_by_id(id)
-        } else {
-            None
-        }
+        let ids = self.ids.as_slice();
+        self.under.field_by_id(id).filter(|_| is_among(ids, id))
     }
 
     fn id_by_name(&self, name: &[u8]) -> Option<i32> {

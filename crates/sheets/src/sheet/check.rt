@@ -47,6 +47,7 @@ fn rows_of_sheet<'a>(bytes: &'a [u8]) -> Option<&'a [u8]>
 fn are_rows(bytes: &[u8], count: u16) -> bool
     ensures { Decides result (Filled bytes.now count) }
 {
+    // kept: no plainer as `all`: of a closure that steps the rows a proof would learn nothing
     let mut rows = Rows { left: bytes };
     for _ in 0..count {
         if rows.next().is_none() {

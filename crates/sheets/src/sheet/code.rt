@@ -68,10 +68,10 @@ fn parameters_of(field_type: Type) -> u64
 {
     match field_type {
         Type::Primitive(PrimitiveType::Decimal { precision, scale }) => {
-            precision as u64 * WORD + scale as u64
+            u64::from(precision) * WORD + u64::from(scale)
         }
         Type::Primitive(PrimitiveType::Fixed(length)) => length,
         Type::Primitive(_) => 0,
-        Type::Struct(place) | Type::List(place) | Type::Map(place) => place as u64,
+        Type::Struct(place) | Type::List(place) | Type::Map(place) => u64::from(place),
     }
 }
