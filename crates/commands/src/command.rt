@@ -132,7 +132,10 @@ impl Words<'_> {
             (Verb::Satisfies, [text, other]) => {
                 Ok(Command::Satisfies(bytes(heap, text)?, bytes(heap, other)?))
             }
-            (Verb::Alike, [text, other]) => Ok(Command::Alike(bytes(heap, text)?, bytes(heap, other)?)),
+            (Verb::Alike, [text, other]) => Ok(Command::Alike(
+                bytes(heap, text)?,
+                bytes(heap, other)?,
+            )),
             _ => Err(ScriptFault::BadCommand),
         }
     }

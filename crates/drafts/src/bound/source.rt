@@ -18,10 +18,11 @@ impl<'a, S: Schema> OnSchema<'a, S> {
         ensures { AdmitsAll (S.Schema.columns self.now.schema.now) (papers fields.now) result }
     {
         for (index, field) in fields.iter().enumerate() {
-            self.check_source(&field.view()).map_err(|fault| BatchFault {
-                index,
-                cause: BatchCause::Add(fault),
-            })?;
+            self.check_source(&field.view())
+                .map_err(|fault| BatchFault {
+                    index,
+                    cause: BatchCause::Add(fault),
+                })?;
         }
         Ok(())
     }
