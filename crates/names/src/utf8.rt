@@ -10,7 +10,7 @@ pub fn check_utf8(bytes: &[u8]) -> Result<(), usize>
     ensures utf8 { MatchResult result (λ _. IsUtf8 bytes.now) (λ _. IsUtf8 bytes.now → ⊥) }
     ensures one_notion { WellFormedIsUtf8 }
 {
-    // kept: tried with map and map_err, and the proof did not close: it takes the library's two cases apart
+    // kept: no plainer with map and map_err: tried, and the proof has to take the two closures apart again, case by case
     match str::from_utf8(bytes) {
         Ok(_) => Ok(()),
         Err(fault) => Err(fault.valid_up_to()),

@@ -1,7 +1,10 @@
 -- A search for the first place, step by step. Assumes nothing.
-use Rattle.std.proofs.Common.{◌≡◌, Bool, is_some, ℕ, zero, suc, ◌<◌, ◌≤◌, List, [], ◌∷◌, length, get_or, Some, None, Option, sym, subst, ⊎_elim, arith}
+use Rattle.std.proofs.Common.{◌≡◌, Bool, is_some, ℕ, zero, suc, ◌<◌, ◌≤◌, List, [], ◌∷◌, length, get_or, Some, None, Option, MatchOption, sym, subst, ⊎_elim, arith}
 use Rattle.std.proofs.lemmas.List.{get_or_default}
 use Rattle.std.proofs.lemmas.Bool.{cases_lt}
+use Rattle.std.proofs.lemmas.Option.{slice_get-get_or}
+use Rattle.std.specs.List.{slice_get}
+use Rattle.std.specs.Option.{IsSomeAnd}
 use Rattle.partitions.specs.Places.{NoneBefore, Nowhere, Somewhere, FirstAt, Finds, Tells}
 
 module _ {X : Type 0} (P : X → Type 0) (xs : List X) where
@@ -35,3 +38,23 @@ module _ {X : Type 0} (P : X → Type 0) (xs : List X) where
 
   pub nowhere_since : (Somewhere P xs → ⊥) → Nowhere P xs
   nowhere_since n k d l p = n (record { place = k; inside = l; here = λ d'. subst P (get_or_default xs k d d' l) p })
+
+  -- what stands at the place is what is sought
+  abbrev pub MeetsAt : ℕ → Type 0
+  MeetsAt i = IsSomeAnd (slice_get xs i) P
+
+  meets : (i : ℕ) (d : X) → i < length xs → P (get_or xs i d) → MeetsAt i
+  meets i d l p = subst (λ o. IsSomeAnd o P) (sym (slice_get-get_or xs i d l)) p
+
+  met : (i : ℕ) (d : X) → i < length xs → MeetsAt i → P (get_or xs i d)
+  met i d l m = subst (λ o. IsSomeAnd o P) (slice_get-get_or xs i d l) m
+
+  -- a search of all places is a search for the first
+  pub first_place : (n : ℕ) → n ≡ length xs → (r : Option ℕ)
+      → MatchOption r ((k : ℕ) → 0 ≤ k → k < n → MeetsAt k → ⊥) (λ i. (0 ≤ i) × (i < n) × MeetsAt i × ((k : ℕ) → 0 ≤ k → k < i → MeetsAt k → ⊥)) → Finds P xs r
+  first_place n e None h = λ k d l p. h k (omega arith) (omega (arith, e)) (meets k d l p)
+  first_place n e (Some i) h = record {
+    inside = omega (arith, e, h.1);
+    here = λ d. met i d (omega (arith, e, h.1)) h.2;
+    before = λ k d l p. h.3 k (omega arith) l (meets k d (omega (arith, e, h.1)) p);
+  }

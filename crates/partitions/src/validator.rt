@@ -30,16 +30,9 @@ pub trait CorePartitionSpecValidator {
     fn first<S: Sought>(&self, sought: &S) -> Option<usize>
         ensures { Finds (S.Sought.meets sought.now) (held self.now) result }
     {
-        // kept: tried as a `find` over the indices, and the proof did not close: its closure asks the holder, and what it answers is
-        // not told of the fields on paper
-        for index in 0..self.field_count() {
-            if let Some(field) = self.field_at(index) {
-                if sought.is(&field) {
-                    return Some(index);
-                }
-            }
-        }
-        None
+        (0..self.field_count()).find(|index| {
+            self.field_at(*index).is_some_and(|field| sought.is(&field))
+        })
     }
 
     // The index of the first field with the name.

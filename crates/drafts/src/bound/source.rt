@@ -18,13 +18,11 @@ impl<'a, S: Schema> OnSchema<'a, S> {
         ensures { AdmitsAll (S.Schema.columns self.now.schema.now) (papers fields.now) result }
     {
         for (index, field) in fields.iter().enumerate() {
-            // kept: tried with map_err, and the proof did not close: at its exit the turn's place is no longer named
-            if let Err(fault) = self.check_source(&field.view()) {
-                return Err(BatchFault {
+            self.check_source(&field.view())
+                .map_err(|fault| BatchFault {
                     index,
                     cause: BatchCause::Add(fault),
-                });
-            }
+                })?;
         }
         Ok(())
     }

@@ -30,7 +30,7 @@ impl<'a> ColumnTable<'a> {
     fn is_new(&self, row: &ColumnRecord) -> bool
         ensures { Decides result (New (row_of self.now.names.now row.now) (table_rows self.now)) }
     {
-        // kept: tried with is_some_and, and the proof did not close: of its closure only the answer is known
+        // kept: no plainer with is_some_and: a closure of two tests in place of two short arms
         match row.name.of(self.names) {
             Some(name) => self.field_by_id(row.id).is_none() && self.id_by_name(name).is_none(),
             None => false,
