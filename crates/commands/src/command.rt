@@ -1,4 +1,6 @@
 // Lines of a script as commands.
+ghost use Rattle.commands.specs.Faults.{NothingRefused};
+
 use crate::fault::ScriptFault;
 use crate::types::read_type;
 use crate::verb::Verb;
@@ -69,7 +71,9 @@ pub enum Command {
 
 impl Command {
     // The command that a line says; none where the line is empty or a comment.
-    pub fn read(heap: Global, line: &str) -> Result<Option<Command>, ScriptFault> {
+    pub fn read(heap: Global, line: &str) -> Result<Option<Command>, ScriptFault>
+        ensures { NothingRefused result }
+    {
         let words: Vec<&str> = line.split_ascii_whitespace().collect(heap)?;
         let [first, rest @ ..] = words.as_slice() else {
             return Ok(None);
@@ -107,7 +111,9 @@ struct Words<'a> {
 }
 
 impl Words<'_> {
-    fn of_columns(&self) -> Result<Command, ScriptFault> {
+    fn of_columns(&self) -> Result<Command, ScriptFault>
+        ensures { NothingRefused result }
+    {
         let heap = self.heap;
         match (self.verb, self.rest) {
             (Verb::Column, [id, word, name]) => column(heap, id, word, name, false),
@@ -121,7 +127,9 @@ impl Words<'_> {
         }
     }
 
-    fn of_text(&self) -> Result<Command, ScriptFault> {
+    fn of_text(&self) -> Result<Command, ScriptFault>
+        ensures { NothingRefused result }
+    {
         let heap = self.heap;
         match (self.verb, self.rest) {
             (Verb::Name, [name]) => Ok(Command::Name(bytes(heap, name)?)),
@@ -140,7 +148,9 @@ impl Words<'_> {
         }
     }
 
-    fn of_draft(&self) -> Result<Command, ScriptFault> {
+    fn of_draft(&self) -> Result<Command, ScriptFault>
+        ensures { NothingRefused result }
+    {
         let heap = self.heap;
         match (self.verb, self.rest) {
             (Verb::Draft, []) => Ok(Command::Draft),
@@ -168,7 +178,9 @@ impl Words<'_> {
         }
     }
 
-    fn of_sort(&self) -> Result<Command, ScriptFault> {
+    fn of_sort(&self) -> Result<Command, ScriptFault>
+        ensures { NothingRefused result }
+    {
         let heap = self.heap;
         match (self.verb, self.rest) {
             (Verb::SortNew, []) => Ok(Command::SortNew),
@@ -189,7 +201,9 @@ fn column(
     word: &str,
     name: &str,
     is_marked: bool,
-) -> Result<Command, ScriptFault> {
+) -> Result<Command, ScriptFault>
+    ensures { NothingRefused result }
+{
     let field_type = read_type(word)?;
     let id = number.parse()?;
     let name = bytes(heap, name)?;
@@ -201,7 +215,9 @@ fn column(
     }))
 }
 
-fn select(heap: Global, words: &[&str]) -> Result<Command, ScriptFault> {
+fn select(heap: Global, words: &[&str]) -> Result<Command, ScriptFault>
+    ensures { NothingRefused result }
+{
     let mut ids = Vec::new(heap);
     for word in words {
         ids.push(word.parse()?)?;
@@ -209,7 +225,9 @@ fn select(heap: Global, words: &[&str]) -> Result<Command, ScriptFault> {
     Ok(Command::Select(ids))
 }
 
-fn result_type(heap: Global, text: &str, word: &str) -> Result<Command, ScriptFault> {
+fn result_type(heap: Global, text: &str, word: &str) -> Result<Command, ScriptFault>
+    ensures { NothingRefused result }
+{
     let input = read_type(word)?;
     Ok(Command::ResultType(bytes(heap, text)?, input))
 }
@@ -220,7 +238,9 @@ fn add(
     field: &str,
     name: &str,
     text: &str,
-) -> Result<Command, ScriptFault> {
+) -> Result<Command, ScriptFault>
+    ensures { NothingRefused result }
+{
     let source_id = source.parse()?;
     let field_id = maybe_id(field)?;
     let name = bytes(heap, name)?;
@@ -239,7 +259,9 @@ fn sort(
     text: &str,
     direction: &str,
     nulls: &str,
-) -> Result<Command, ScriptFault> {
+) -> Result<Command, ScriptFault>
+    ensures { NothingRefused result }
+{
     let direction = read_direction(direction)?;
     let null_order = read_nulls(nulls)?;
     let source_id = source.parse()?;
@@ -253,7 +275,9 @@ fn sort(
 }
 
 // kept: a function for each of the two enums, no plainer as one over both, since words and cases are each its own
-fn read_direction(word: &str) -> Result<SortDirection, ScriptFault> {
+fn read_direction(word: &str) -> Result<SortDirection, ScriptFault>
+    ensures { NothingRefused result }
+{
     match word {
         "asc" => Ok(SortDirection::Ascending),
         "desc" => Ok(SortDirection::Descending),
@@ -261,7 +285,9 @@ fn read_direction(word: &str) -> Result<SortDirection, ScriptFault> {
     }
 }
 
-fn read_nulls(word: &str) -> Result<NullOrder, ScriptFault> {
+fn read_nulls(word: &str) -> Result<NullOrder, ScriptFault>
+    ensures { NothingRefused result }
+{
     match word {
         "first" => Ok(NullOrder::First),
         "last" => Ok(NullOrder::Last),

@@ -1,4 +1,6 @@
 // Words that stand for types.
+ghost use Rattle.commands.specs.Faults.{NothingRefused};
+
 use crate::fault::ScriptFault;
 use transforms::datatypes::{PrimitiveType, Type};
 
@@ -23,7 +25,9 @@ const PLAIN: [PrimitiveType; 14] = [
 // A type by its word, with its parameters: int, decimal(9,2), fixed[16], list, list@4.
 // kept: no plainer: FromStr can't be implemented here, since it and the types are other crates', and the words are the script's;
 // so too `read_direction` and `read_nulls`
-pub fn read_type(word: &str) -> Result<Type, ScriptFault> {
+pub fn read_type(word: &str) -> Result<Type, ScriptFault>
+    ensures { NothingRefused result }
+{
     read_nested(word)
         .or_else(|| read_primitive(word).map(Type::Primitive))
         .ok_or(ScriptFault::BadCommand)

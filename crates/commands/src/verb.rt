@@ -1,6 +1,7 @@
 // The first words of commands.
 ghost use Rattle.std.specs.Prelude.{◌≡◌, MatchResult};
 ghost use Rattle.commands.specs.Words.{word_of, NoVerb};
+ghost use Rattle.commands.specs.declared.fault.ScriptFault.TheVariants.{BadCommand};
 
 use crate::fault::ScriptFault;
 use std::str::FromStr;
@@ -139,7 +140,7 @@ impl Verb {
 impl FromStr for Verb {
     type Err = ScriptFault;
 
-    ghost from_str_gives = { λ word r. MatchResult r (λ verb. word_of verb ≡ word) (λ _. NoVerb word) };
+    ghost from_str_gives = { λ word r. MatchResult r (λ verb. word_of verb ≡ word) (λ fault. NoVerb word × (fault ≡ BadCommand)) };
 
     fn from_str(word: &str) -> Result<Verb, ScriptFault> {
         let verb = VERBS.iter().find(|verb| verb.word() == word).copied();

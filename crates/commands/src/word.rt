@@ -1,12 +1,15 @@
 // Words that stand for bytes and numbers.
 ghost use Rattle.std.specs.Prelude.{◌≡◌};
+ghost use Rattle.commands.specs.Faults.{NothingRefused};
 ghost use Rattle.commands.specs.Hex.{hex_digit};
 
 use crate::fault::ScriptFault;
 use std::alloc::Global;
 
 // A bare word, or `x:` and hexadecimal digits.
-pub fn bytes(heap: Global, word: &str) -> Result<Vec<u8>, ScriptFault> {
+pub fn bytes(heap: Global, word: &str) -> Result<Vec<u8>, ScriptFault>
+    ensures { NothingRefused result }
+{
     match word.strip_prefix("x:") {
         Some(digits) => pairs(heap, digits.as_bytes()),
         None => Ok(word.as_bytes().to_vec(heap)?),
@@ -14,7 +17,9 @@ pub fn bytes(heap: Global, word: &str) -> Result<Vec<u8>, ScriptFault> {
 }
 
 // Hexadecimal digits, or `-` for no bytes.
-pub fn hex(heap: Global, word: &str) -> Result<Vec<u8>, ScriptFault> {
+pub fn hex(heap: Global, word: &str) -> Result<Vec<u8>, ScriptFault>
+    ensures { NothingRefused result }
+{
     match word {
         "-" => Ok(Vec::new(heap)),
         digits => pairs(heap, digits.as_bytes()),
@@ -22,7 +27,9 @@ pub fn hex(heap: Global, word: &str) -> Result<Vec<u8>, ScriptFault> {
 }
 
 // An id, or `-` for none.
-pub fn maybe_id(word: &str) -> Result<Option<i32>, ScriptFault> {
+pub fn maybe_id(word: &str) -> Result<Option<i32>, ScriptFault>
+    ensures { NothingRefused result }
+{
     match word {
         "-" => Ok(None),
         id => Ok(Some(id.parse()?)),
@@ -30,7 +37,9 @@ pub fn maybe_id(word: &str) -> Result<Option<i32>, ScriptFault> {
 }
 
 // The bytes that pairs of hexadecimal digits write.
-fn pairs(heap: Global, digits: &[u8]) -> Result<Vec<u8>, ScriptFault> {
+fn pairs(heap: Global, digits: &[u8]) -> Result<Vec<u8>, ScriptFault>
+    ensures { NothingRefused result }
+{
     let mut out = Vec::new(heap);
     for pair in digits.chunks(2) {
         out.push(byte(pair).ok_or(ScriptFault::BadCommand)?)?;

@@ -122,3 +122,7 @@ one_notion bs = (to_utf8 bs, from_utf8 bs)
 -- the longest front that is well formed, from the library's
 pub front : (bs : List ℕ) (n : ℕ) → IsValidUpTo bs n → Front bs n
 front bs n v = record { short = v.short; good = from_utf8 (take n bs) v.front; longest = λ m a _ w. v.longest m a (to_utf8 (take m bs) w) }
+
+-- a name with a longest front that is short of it is no text
+pub no_text : (bs : List ℕ) (n : ℕ) → Front bs n → IsUtf8 bs → ⊥
+no_text bs n f u = f.longest (length bs) f.short (omega arith) (subst WellFormed (sym (take_all (length bs) bs (omega arith))) (from_utf8 bs u))

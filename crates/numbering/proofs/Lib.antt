@@ -1,5 +1,6 @@
 pub mod Options
 pub mod Elements
+pub mod Highs
 pub mod Laws
 pub mod Steps
 pub mod Outcomes

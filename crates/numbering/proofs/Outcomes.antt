@@ -1,6 +1,6 @@
 -- What follows of an answer: the laws of numbering at each way that it can end. Assumes nothing.
-use Rattle.std.proofs.Common.{List, length, take, ℤ, Ok, Err, Option, Result, refl, ap, inl, inr}
-use Rattle.numbering.specs.Outcome.{Answered, Lawful}
+use Rattle.std.proofs.Common.{◌≡◌, ℕ, ◌≤◌, List, length, take, ℤ, Ok, Err, Option, Result, refl, ap, inl, inr, arith}
+use Rattle.numbering.specs.Outcome.{Answered, Lawful, Refused}
 use Rattle.numbering.specs.declared.NumberFault.{NumberFault}
 use Rattle.numbering.specs.declared.NumberFault.TheVariants.{Short, NoNumber}
 use Rattle.numbering.proofs.Laws.{numbered_unique, stuck_excludes, stuck_unique, numbered_distinct, stated_numbering, stated_never_stuck}
@@ -20,3 +20,8 @@ module _ {A : Type 0} (start : ℤ) (draft : List (Option ℤ)) (old new : List 
     distinct = λ _. tt;
     stable = λ ids all. absurd (stated_never_stuck start draft ids all place (take place new) a.stuck);
   }
+
+-- where there is room, a refusal is not for want of it
+pub not_short : (start : ℤ) (draft : List (Option ℤ)) (old new : List ℤ) (fault : NumberFault) → length draft ≤ length old → Refused start draft old new fault → fault ≡ Short → ⊥
+not_short start draft old new Short room a e = let less = a.short in omega arith
+not_short start draft old new (NoNumber place) room a e = let z : ◌≡◌ {A = ℕ} 0 1 = cc in omega arith

@@ -4,8 +4,8 @@ use native.Mathlib.Nat.{pow-succ', mod-one, pow-le-pow_right}
 use lib.Arith.{mod-mul, digits_div, digits_mod, digits_lt}
 use Rattle.std.proofs.ByRecursion.{All-append, All-from_get_or, All-take}
 use Rattle.std.proofs.lemmas.List.{length-take}
-use Rattle.std.proofs.lemmas.Int.{to_z-of_z, ints}
-use Rattle.octets.specs.BigEndian.{big_endian, number, be_id, id_number}
+use Rattle.std.proofs.lemmas.Int.{to_z-of_z, of_z-to_z, ints}
+use Rattle.octets.specs.BigEndian.{big_endian, number, be4, be_id, id_number}
 use Rattle.octets.specs.Octets.{Bytes}
 
 pub length_be : (k n : ℕ) → length (big_endian k n) ≡ k
@@ -96,3 +96,8 @@ id_number_be_id z f = ap (to_z w32) (number_be 4 (of_z w32 z) (of_z_below z f)) 
 
 pub same_from_be_id : (y z : ℤ) → SFits w32 y → SFits w32 z → be_id y ≡ be_id z → y ≡ z
 same_from_be_id y z f g e = sym (id_number_be_id y f) ∙ ap id_number e ∙ id_number_be_id z g
+
+pub be_id_id_number : (bs : List ℕ) → Bytes bs → length bs ≡ 4 → be_id (id_number bs) ≡ bs
+be_id_id_number bs h n =
+    let small : number bs < 256 ^ 4 = subst (λ k. number bs < 256 ^ k) n (number_below bs h) in
+    ap be4 (of_z-to_z w32 (number bs) small) ∙ ap (λ k. big_endian k (number bs)) (sym n) ∙ be_number bs h

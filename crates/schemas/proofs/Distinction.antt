@@ -7,6 +7,9 @@ use Rattle.bounded.specs.declared.Full.{Full}
 use Rattle.schemas.specs.Ids.{has, Distinct}
 use Rattle.schemas.proofs.Identity.{has_decides}
 
+pub distinct_none : (ids : List ℤ) → length ids ≡ 0 → Distinct ids
+distinct_none ids e i j lt below f = omega arith
+
 pub distinct_push : (ids : List ℤ) (id : ℤ) → Distinct ids → has ids id ≡ false → Distinct (ids ++ id ∷ [])
 distinct_push ids id apart new i j lt below e = ⊎_elim inside last (cases_lt j (length ids))
   where

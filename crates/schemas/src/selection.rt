@@ -1,4 +1,5 @@
 // Selections: a schema of which only some ids are shown.
+ghost use Rattle.std.specs.Prelude.{◌≤◌, length};
 ghost use Rattle.schemas.specs.Ids.{Distinct};
 
 use crate::schema::Schema;
@@ -21,5 +22,6 @@ pub struct Selection<'a, S: Schema> {
     under: &'a S,
     // in the order in which they were selected
     ids: Bounded<i32, MAX_IDS>,
+    ghost few: { length ids ≤ 64 },
     ghost distinct: { Distinct ids },
 }

@@ -2,6 +2,7 @@
 use Rattle.std.proofs.Common.{◌≡◌, ℕ, suc, ◌+◌, ◌-◌, ◌<◌, false, List, [], ◌∷◌, ◌++◌, length, Decides, sym, refl, ap, ◌∙◌, arith}
 use Rattle.std.specs.List.{flat_map}
 use Rattle.std.proofs.lemmas.Bool.{false≢true}
+use Rattle.std.proofs.lemmas.List.{nil_from_length}
 use Rattle.sheets.specs.Standing.{Begins, Holds, Filled}
 use Rattle.sheets.specs.Sheets.{SheetRow, row_bytes}
 use Rattle.sheets.proofs.Fronts.{placed}
@@ -39,6 +40,12 @@ filled_less bs row rest k n e b f =
 
 pub filled_no : (bs : List ℕ) (n : ℕ) → 0 < n → ((row : SheetRow) (rest : List ℕ) → Begins bs row rest → ⊥) → Filled bs n → ⊥
 filled_no bs n h none f = omega (arith, f.many, ap length (holds_none bs f.rows f.holds none))
+
+pub filled_all : (bs : List ℕ) → bs ≡ [] → Filled bs 0
+filled_all bs e = record { rows = []; many = refl; holds = record { is = e; each = tt } }
+
+pub filled_end : (bs : List ℕ) → Filled bs 0 → bs ≡ []
+filled_end bs f = f.holds.is ∙ ap (flat_map row_bytes) (nil_from_length f.rows f.many)
 
 -- the one has its rows exactly when the other has
 abbrev pub Alike : List ℕ → ℕ → List ℕ → ℕ → Type 0

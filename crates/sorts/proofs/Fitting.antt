@@ -1,6 +1,6 @@
 -- Fields whose rules are kept fit every schema that shows the same columns.
 use Rattle.std.proofs.lemmas.Bool.{true_from_ne_false}
-use Rattle.std.proofs.Common.{◌≡◌, true, false, List, [], ◌∷◌, is_some, IsSomeAnd, Some, None, Option, refl, subst}
+use Rattle.std.proofs.Common.{◌≡◌, true, false, List, [], ◌∷◌, is_some, IsSomeAnd, Some, None, Option, Result, refl, subst}
 use Rattle.std.specs.List.{AllByRecursion}
 use Rattle.faults.specs.Rules.{AllKept}
 use Rattle.faults.proofs.Firsts.{kept_front, kept_back}
@@ -9,8 +9,10 @@ use Rattle.schemas.specs.declared.schema.Column.{Column}
 use Rattle.schemas.specs.Columns.{Columns, Same, is_primitive}
 use Rattle.schemas.proofs.Lookups.{same_columns}
 use Rattle.sorts.specs.declared.sort.SortField.{SortField}
-use Rattle.sorts.specs.Promises.{Fits}
-use Rattle.sorts.specs.SortRules.{field_rules, each_field_rules}
+use Rattle.sorts.specs.declared.sort.SortFault.{SortFault}
+use Rattle.sorts.specs.Drafts.{Draft}
+use Rattle.sorts.specs.Promises.{Fits, SameAnswerOnEverySchemaThatShowsTheSame}
+use Rattle.sorts.specs.SortRules.{field_rules, each_field_rules, build_rules, Answers}
 
 not_none : {X : Type 0} (o : Option X) → (o ≡ None → ⊥) → is_some o ≡ true
 not_none None n = absurd (n refl)
@@ -32,3 +34,6 @@ all_fit c (field ∷ fields) k = let own = kept_front (field_rules c field) (eac
 
 pub fit_on_every : (c : Columns) (fields : List SortField) → AllKept (each_field_rules c fields) → (d : Columns) → Same c d → AllByRecursion (Fits d) fields
 fit_on_every c fields k d s = subst (λ e. AllByRecursion (Fits e) fields) (same_columns c d s) (all_fit c fields k)
+
+pub same_answer : (c : Columns) (draft : Draft) (r : Result (Unit {0}) SortFault) → Answers (build_rules c draft.id draft.fields) r → SameAnswerOnEverySchemaThatShowsTheSame c draft r
+same_answer c draft r a d s = subst (λ e. Answers (build_rules e draft.id draft.fields) r) (same_columns c d s) a

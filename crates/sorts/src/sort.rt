@@ -1,4 +1,5 @@
 // Sort fields, drafts of sort orders, and sort orders.
+ghost use Rattle.std.specs.Prelude.{◌≤◌, length};
 ghost use Rattle.sorts.specs.Zero.{ZeroIsUnsorted};
 
 use bounded::Bounded;
@@ -51,6 +52,7 @@ pub enum SortFault {
 pub struct SortOrderBuilder {
     order_id: Option<i64>,
     fields: Bounded<SortField, MAX_FIELDS>,
+    ghost few: { length fields ≤ 64 },
 }
 
 // The rows stand by the first field, those that are equal there by the second, and so on.
@@ -58,5 +60,6 @@ pub struct SortOrderBuilder {
 pub struct SortOrder {
     order_id: i64,
     fields: Bounded<SortField, MAX_FIELDS>,
+    ghost few: { length fields ≤ 64 },
     ghost zero: { ZeroIsUnsorted order_id fields },
 }

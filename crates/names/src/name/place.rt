@@ -10,7 +10,6 @@ impl NamePlace {
     pub fn of<'a>(&self, area: &'a [u8]) -> Option<&'a [u8]>
         ensures { option_map (λ x. x.now) result ≡ placed self.now.start self.now.length area.now }
     {
-        let end = self.start.checked_add(self.length)?;
-        area.get(self.start..end)
+        area.get(self.start..)?.get(..self.length)
     }
 }

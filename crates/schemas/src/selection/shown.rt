@@ -13,7 +13,10 @@ impl<'a, S: Schema> Schema for Selection<'a, S> {
 
     fn field_by_id(&self, id: i32) -> Option<Column> {
         let ids = self.ids.as_slice();
-        self.under.field_by_id(id).filter(|_| is_among(ids, id))
+        // the few ids are asked first, since what lies under may be long
+        is_among(ids, id)
+            .then(|| self.under.field_by_id(id))
+            .flatten()
     }
 
     fn id_by_name(&self, name: &[u8]) -> Option<i32> {

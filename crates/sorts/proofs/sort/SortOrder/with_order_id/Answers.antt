@@ -11,4 +11,4 @@ returns-in_err-check_order_id c =
     search rules
 
 pub invariant_of-self : goal.invariant_of-self
-invariant_of-self c = record { zero = zero_after _ _ _ _ c.in_ok-check_order_id.ensures refl (sym c.as_slice.ensures.value) }
+invariant_of-self c = record { few = c.args.self.now.few; zero = zero_after _ _ _ _ c.in_ok-check_order_id.ensures refl (sym c.as_slice.ensures.value) }
